@@ -1,0 +1,121 @@
+-- Laws of a single link: document 000's lemma 2.1, without the table that chooses the link.
+use mathlib.Core.Path.{_≡_, refl, sym, ap, subst, _∙_}
+use Prim.Native.Nat.{ℕ, zero, suc, _+_, _-_, _*_, _/_, _%_, _^_, _≤_, _<_}
+use native.Mathlib.Nat.{mod-lt, mod-eq-of-lt, add-mod-mod, mod-add-mod, mod-mod, pow-suc, add-mod-right, mul-add-mod-self-right, suc-mul}
+use native.Mathlib.Omega.{arith}
+use lib.Pow.{pow-pos, pow-mono, pow-add, high}
+use Rattle.fabric.specs.Labels.{size, bit, Agree}
+use Rattle.fabric.specs.Links.{Code, lands}
+use Rattle.fabric.proofs.Bits.{low-of-low, low-more, turned, agree-less, agree-more, agree-bit, bit-of-low}
+
+-- what holds of the three codes holds of every code
+pub each-code : (P : ℕ → Type 0) → P 0 → P 1 → P 2 → (c : ℕ) → Code c → P c
+each-code P p q r zero h = p
+each-code P p q r (suc zero) h = q
+each-code P p q r (suc (suc zero)) h = r
+each-code P p q r (suc (suc (suc c))) h = absurd (omega arith)
+
+-- what reads a code above 2 takes it for minus
+pub lands-minus : (n i c j : ℕ) → 2 ≤ c → lands n i c j ≡ lands n i 2 j
+lands-minus n i zero j h = absurd (omega arith)
+lands-minus n i (suc zero) j h = absurd (omega arith)
+lands-minus n i (suc (suc c)) j h = refl
+
+module _ (n i : ℕ) where
+  pub lands-lt : (c j : ℕ) → j < size n → lands n i c j < size n
+  lands-lt zero j h = h
+  lands-lt (suc zero) j h = mod-lt (j + 2 ^ i) (pow-pos n)
+  lands-lt (suc (suc c)) j h = mod-lt (j + (size n - 2 ^ i)) (pow-pos n)
+
+module _ (n i : ℕ) (h : i < n) where
+  whole : (size n - 2 ^ i) + 2 ^ i ≡ size n
+  whole = let l : 2 ^ i ≤ 2 ^ n = pow-mono (omega arith) in omega arith
+
+  -- minus and plus undo each other: minus takes off what plus adds
+  pub minus-then-plus : (j : ℕ) → j < size n → lands n i 1 (lands n i 2 j) ≡ j
+  minus-then-plus j l =
+      mod-add-mod (j + (size n - 2 ^ i)) (size n) (2 ^ i)
+      ∙ ap (λ (x : ℕ). x % size n) {x = j + (size n - 2 ^ i) + 2 ^ i} {y = j + size n} (omega (arith, whole))
+      ∙ add-mod-right j (size n)
+      ∙ mod-eq-of-lt l
+
+  pub plus-then-minus : (j : ℕ) → j < size n → lands n i 2 (lands n i 1 j) ≡ j
+  plus-then-minus j l =
+      mod-add-mod (j + 2 ^ i) (size n) (size n - 2 ^ i)
+      ∙ ap (λ (x : ℕ). x % size n) {x = j + 2 ^ i + (size n - 2 ^ i)} {y = j + size n} (omega (arith, whole))
+      ∙ add-mod-right j (size n)
+      ∙ mod-eq-of-lt l
+
+  -- plus and minus are alike in the low bits up to bit i
+  plus-low : (j : ℕ) → Agree (suc i) (lands n i 1 j) (j + 2 ^ i)
+  plus-low j = low-of-low (suc i) n (j + 2 ^ i) h
+
+  minus-low : (j : ℕ) → Agree (suc i) (lands n i 2 j) (j + 2 ^ i)
+  minus-low j =
+      let k : ℕ = n - suc i in
+      let e : k + suc i ≡ n = omega arith in
+      let p : size n ≡ 2 ^ k * 2 ^ suc i = ap (λ (m : ℕ). 2 ^ m) (sym e) ∙ pow-add 2 k (suc i) in
+      let d = pow-suc 2 i in
+      let q : 0 < 2 ^ k = pow-pos k in
+      let g : 2 ^ k * 2 ^ suc i ≡ (2 ^ k - 1) * 2 ^ suc i + 2 ^ suc i = block (2 ^ k) (2 ^ suc i) q in
+      low-of-low (suc i) n (j + (size n - 2 ^ i)) h
+      ∙ ap (λ (x : ℕ). x % 2 ^ suc i) {x = j + (size n - 2 ^ i)} {y = (2 ^ k - 1) * 2 ^ suc i + (j + 2 ^ i)} (omega arith)
+      ∙ mul-add-mod-self-right (2 ^ k - 1) (2 ^ suc i) (j + 2 ^ i)
+    where
+      block : (a b : ℕ) → 0 < a → a * b ≡ (a - 1) * b + b
+      block zero b z = absurd (omega arith)
+      block (suc a) b z = suc-mul a b ∙ ap (λ (x : ℕ). x * b + b) {x = a} {y = suc a - 1} (omega arith)
+
+  -- a nonstraight link turns bit i and keeps the bits below it
+  pub nonstraight-low : (c j : ℕ) → 0 < c → lands n i c j % 2 ^ suc i ≡ (1 - bit i j) * 2 ^ i + j % 2 ^ i
+  nonstraight-low zero j z = absurd (omega arith)
+  nonstraight-low (suc zero) j z = plus-low j ∙ turned i j
+  nonstraight-low (suc (suc c)) j z = minus-low j ∙ turned i j
+
+  -- a straight link keeps them all
+  pub straight-low : (j : ℕ) → lands n i 0 j % 2 ^ suc i ≡ bit i j * 2 ^ i + j % 2 ^ i
+  straight-low j = low-more i j
+
+  -- the bits below bit i stay
+  pub low-bits-stay : (c j : ℕ) → Agree i (lands n i c j) j
+  low-bits-stay zero j = refl
+  low-bits-stay (suc c) j = kept (lands n i (suc c) j) (nonstraight-low (suc c) j (omega arith))
+    where
+      kept : (x : ℕ) → x % 2 ^ suc i ≡ (1 - bit i j) * 2 ^ i + j % 2 ^ i → Agree i x j
+      kept x e =
+          sym (low-of-low i (suc i) x (omega arith))
+          ∙ ap (λ (y : ℕ). y % 2 ^ i) e
+          ∙ mul-add-mod-self-right (1 - bit i j) (2 ^ i) (j % 2 ^ i)
+          ∙ mod-mod j (2 ^ i)
+
+  -- a nonstraight link turns bit i
+  pub nonstraight-bit : (c j : ℕ) → 0 < c → bit i (lands n i c j) ≡ 1 - bit i j
+  nonstraight-bit c j z =
+      sym (bit-of-low i (suc i) (lands n i c j) (omega arith))
+      ∙ ap (bit i) (nonstraight-low c j z)
+      ∙ ap (λ (x : ℕ). x % 2) (high (1 - bit i j) i (mod-lt j (pow-pos i)))
+      ∙ omega arith
+
+  -- a link leads toward d, one bit further, exactly when its switch agrees with d below bit i and it is straight where bit i
+  -- is right and nonstraight where it is wrong
+  pub toward-needs : (c j d : ℕ) → Agree (suc i) (lands n i c j) d → Agree i j d
+  toward-needs c j d e = sym (low-bits-stay c j) ∙ agree-less i (suc i) (lands n i c j) d (omega arith) e
+
+  pub toward-straight : (c j d : ℕ) → Agree (suc i) (lands n i c j) d → bit i j ≡ bit i d → c ≡ 0
+  toward-straight zero j d e b = refl
+  toward-straight (suc c) j d e b =
+      let f = nonstraight-bit (suc c) j (omega arith) in
+      let g = agree-bit i (suc i) (lands n i (suc c) j) d (omega arith) e in
+      absurd (omega arith)
+
+  pub toward-nonstraight : (c j d : ℕ) → Agree (suc i) (lands n i c j) d → (bit i j ≡ bit i d → ⊥) → 0 < c
+  toward-nonstraight zero j d e b = absurd (b (agree-bit i (suc i) j d (omega arith) e))
+  toward-nonstraight (suc c) j d e b = omega arith
+
+  pub straight-toward : (j d : ℕ) → Agree i j d → bit i j ≡ bit i d → Agree (suc i) (lands n i 0 j) d
+  straight-toward j d e b = agree-more i j d b e
+
+  pub nonstraight-toward : (c j d : ℕ) → 0 < c → Agree i j d → (bit i j ≡ bit i d → ⊥) → Agree (suc i) (lands n i c j) d
+  nonstraight-toward c j d z e b =
+      let f = nonstraight-bit c j z in
+      agree-more i (lands n i c j) d (omega arith) (low-bits-stay c j ∙ e)

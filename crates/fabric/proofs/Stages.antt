@@ -1,0 +1,56 @@
+-- Walks through the stages, for every n: the low bits settle, and a walk ends at d exactly when it agrees with d in one bit
+-- more after each stage.
+use mathlib.Core.Path.{_≡_, refl, sym, ap, subst, _∙_}
+use mathlib.Core.List.{List, [], _∷_, _++_}
+use Prim.Native.Nat.{ℕ, zero, suc, _+_, _-_, _^_, _%_, _≤_, _<_}
+use native.Mathlib.Nat.{add-zero, add-suc, suc-add}
+use native.Mathlib.Omega.{arith}
+use lib.ListN.{length, take, drop, length-drop, take-append-drop}
+use lib.Seq.{length-take-le, take-length}
+use Rattle.fabric.specs.Labels.{size, Agree}
+use Rattle.fabric.specs.Links.{lands}
+use Rattle.fabric.specs.Walks.{walked, switchAt}
+use Rattle.fabric.proofs.Bits.{agree-less, agree-below}
+use Rattle.fabric.proofs.Links.{lands-lt, low-bits-stay}
+
+module _ (n : ℕ) where
+  pub walked-lt : (i j : ℕ) (cs : List ℕ) → j < size n → walked n i j cs < size n
+  unfolding walked
+  walked-lt i j [] h = h
+  walked-lt i j (c ∷ cs) h = walked-lt (suc i) (lands n i c j) cs (lands-lt n i c j h)
+
+  -- a walk by one run of codes and then another
+  pub walked-on : (i j : ℕ) (xs ys : List ℕ) → walked n i j (xs ++ ys) ≡ walked n (i + length xs) (walked n i j xs) ys
+  unfolding walked
+  walked-on i j [] ys = ap (λ (k : ℕ). walked n k j ys) (sym (add-zero i))
+  walked-on i j (x ∷ xs) ys =
+      walked-on (suc i) (lands n i x j) xs ys
+      ∙ ap (λ (k : ℕ). walked n k (walked n (suc i) (lands n i x j) xs) ys) {x = suc i + length xs} {y = i + suc (length xs)} (omega arith)
+
+  -- from stage i on the bits below bit i never change again
+  pub low-bits-settle : (i j : ℕ) (cs : List ℕ) → i + length cs ≤ n → Agree i (walked n i j cs) j
+  unfolding walked
+  low-bits-settle i j [] h = refl
+  low-bits-settle i j (c ∷ cs) h =
+      agree-less i (suc i) (walked n (suc i) (lands n i c j) cs) (lands n i c j) (omega arith) (low-bits-settle (suc i) (lands n i c j) cs (omega arith))
+      ∙ low-bits-stay n i (omega arith) c j
+
+  -- so the switch in column k has the low k bits of the walk's end
+  pub on-the-way : (s : ℕ) (cs : List ℕ) (k : ℕ) → length cs ≤ n → k ≤ length cs → Agree k (switchAt n s cs k) (walked n 0 s cs)
+  on-the-way s cs k h l =
+      let t : length (take k cs) ≡ k = length-take-le k cs l in
+      let e : walked n 0 s cs ≡ walked n k (switchAt n s cs k) (drop k cs) =
+      ap (walked n 0 s) (sym (take-append-drop k cs))
+      ∙ walked-on 0 s (take k cs) (drop k cs)
+      ∙ ap (λ (m : ℕ). walked n m (switchAt n s cs k) (drop k cs)) {x = 0 + length (take k cs)} {y = k} (omega arith) in
+      let b : k + length (drop k cs) ≤ n = simp length-drop (omega arith) in
+      sym (ap (λ (x : ℕ). x % 2 ^ k) e ∙ low-bits-settle k (switchAt n s cs k) (drop k cs) b)
+
+  -- a walk of n links ends at d exactly when in each column k it agrees with d in its low k bits
+  pub arrives-agrees : (s d : ℕ) (cs : List ℕ) → length cs ≡ n → walked n 0 s cs ≡ d → (k : ℕ) → k ≤ n → Agree k (switchAt n s cs k) d
+  arrives-agrees s d cs l e k h = on-the-way s cs k (omega arith) (omega arith) ∙ ap (λ (x : ℕ). x % 2 ^ k) e
+
+  pub agrees-arrives : (s d : ℕ) (cs : List ℕ) → length cs ≡ n → s < size n → d < size n → ((k : ℕ) → k ≤ n → Agree k (switchAt n s cs k) d) → walked n 0 s cs ≡ d
+  agrees-arrives s d cs l hs hd a =
+      let e : take n cs ≡ cs = ap (λ (m : ℕ). take m cs) (sym l) ∙ take-length cs in
+      agree-below n (walked n 0 s cs) d (walked-lt 0 s cs hs) hd (subst (λ (x : List ℕ). Agree n (walked n 0 s x) d) e (a n (omega arith)))

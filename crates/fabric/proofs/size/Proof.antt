@@ -1,0 +1,21 @@
+use mathlib.Core.Path.{_∙_}
+use Prim.Native.Nat.{_^_}
+use native.Mathlib.Nat.{one-mul}
+use native.Mathlib.Omega.{arith}
+use lib.Pow.{shl-exact}
+use borrow.Author.Needs.{needs}
+use Rattle.fabric.proofs.size.Statement.{statement}
+use Rattle.fabric.proofs.size.Tie as tie
+use Rattle.fabric.proofs.size.Reads as reads
+use Rattle.fabric.proofs.size.Lts as lts
+
+-- src/lib.rt:24:5
+shl-result : tie.Need-shl-result
+shl-result c = search needs
+
+-- src/lib.rt:20:1
+returns : tie.Need-returns
+returns c = shl-exact 1 (c .args .n) 16 (omega arith) (omega arith) ∙ one-mul (2 ^ c .args .n)
+
+pub size-spec : {M : Type 1} → statement M
+size-spec = tie.close (tie.spec shl-result returns)

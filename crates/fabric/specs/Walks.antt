@@ -1,0 +1,25 @@
+-- Document 01, 'Fabric' and 'Tags and steps': "Stages 0 to n-1 hold links; columns 0 to n hold switches"; "Steps are n
+-- codes, stage 0 first."
+use Prim.Native.Nat.{ℕ, suc}
+use mathlib.Core.Path.{_≡_}
+use mathlib.Core.List.{List, [], _∷_}
+use lib.ListN.{length, take}
+use Rattle.fabric.specs.Links.{Code, lands}
+
+abbrev pub Codes : List ℕ → Type 0
+Codes [] = Unit
+Codes (c ∷ cs) = Code c × Codes cs
+
+-- the steps of a path: n codes
+pub record Steps (n : ℕ) (cs : List ℕ) : Type 0 where
+  pub stages : length cs ≡ n
+  pub codes : Codes cs
+
+-- where a walk ends that leaves switch j of column i by links of these codes, a stage each
+unfoldable pub walked : ℕ → ℕ → ℕ → List ℕ → ℕ
+walked n i j [] = j
+walked n i j (c ∷ cs) = walked n (suc i) (lands n i c j) cs
+
+-- the switch in column k of a walk that leaves source s
+abbrev pub switchAt : ℕ → ℕ → List ℕ → ℕ → ℕ
+switchAt n s cs k = walked n 0 s (take k cs)

@@ -1,0 +1,38 @@
+-- Document 01, 'Numbers handed back': "Each is given exactly when its line holds and no earlier check failed."
+use Prim.Native.Nat.{ℕ}
+use mathlib.Core.Path.{_≡_}
+use mathlib.Core.Bool.{Bool, true, false, cond}
+use mathlib.Core.List.{List, [], _∷_}
+use mathlib.Core.Logic.{_⊎_}
+use lib.Dec.{leb, ltb}
+
+-- a number of the table, and whether its line holds
+pub record Check : Type 0 where
+  pub number : ℕ
+  pub holds : Bool
+
+infix 20 _when_
+abbrev pub _when_ : ℕ → Bool → Check
+k when b = record { number = k; holds = b }
+
+infix 45 _below_ _notBelow_
+abbrev pub _below_ : ℕ → ℕ → Bool
+a below b = ltb a b
+
+abbrev pub _notBelow_ : ℕ → ℕ → Bool
+a notBelow b = leb b a
+
+-- what the first check whose line holds makes of its number; where no line holds, what an accepted call gives
+abbrev pub checked {ℓ} : {A : Type ℓ} → List Check → (ℕ → A) → A → A
+checked [] refuse accept = accept
+checked (c ∷ cs) refuse accept = cond (c .holds) (refuse (c .number)) (checked cs refuse accept)
+
+-- the line of number k holds and no earlier one does
+abbrev pub Given : ℕ → List Check → Type 0
+Given k [] = ⊥
+Given k (c ∷ cs) = ((c .holds ≡ true) × (c .number ≡ k)) ⊎ ((c .holds ≡ false) × Given k cs)
+
+-- no line holds
+abbrev pub Passed : List Check → Type 0
+Passed [] = Unit
+Passed (c ∷ cs) = (c .holds ≡ false) × Passed cs

@@ -1,0 +1,37 @@
+-- Document 01, 'Numbers handed back': the number of each refusal.
+use Prim.Native.Nat.{ℕ}
+use Rattle.table.specs.declared.Refusal.{Refusal}
+use Rattle.table.specs.declared.Refusal.the-variants.{
+  Size,
+  Layout,
+  Zero,
+  Place,
+  Field,
+  Wide,
+  Stands,
+  Full,
+  Absent,
+  Label,
+  Tag,
+  Room,
+  Mark,
+  Length,
+  Book,
+}
+
+abbrev pub numberOf : Refusal → ℕ
+numberOf Size = 1
+numberOf Layout = 2
+numberOf Zero = 3
+numberOf Place = 4
+numberOf Field = 5
+numberOf Wide = 6
+numberOf Stands = 7
+numberOf Full = 8
+numberOf Absent = 9
+numberOf Label = 10
+numberOf Tag = 12
+numberOf Room = 13
+numberOf Mark = 14
+numberOf Length = 15
+numberOf Book = 16
