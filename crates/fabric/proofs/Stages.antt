@@ -5,8 +5,8 @@ use mathlib.Core.List.{List, [], _∷_, _++_}
 use Prim.Native.Nat.{ℕ, zero, suc, _+_, _-_, _^_, _%_, _≤_, _<_}
 use native.Mathlib.Nat.{add-zero, add-suc, suc-add}
 use native.Mathlib.Omega.{arith}
-use lib.ListN.{length, take, drop, length-drop, take-append-drop}
-use lib.Seq.{length-take-le, take-length}
+use lib.ListN.{length, take, drop, getD, length-drop, take-append-drop}
+use lib.Seq.{length-take-le, take-length, take-suc}
 use Rattle.fabric.specs.Labels.{size, Agree}
 use Rattle.fabric.specs.Links.{lands}
 use Rattle.fabric.specs.Walks.{walked, switchAt}
@@ -26,6 +26,15 @@ module _ (n : ℕ) where
   walked-on i j (x ∷ xs) ys =
       walked-on (suc i) (lands n i x j) xs ys
       ∙ ap (λ (k : ℕ). walked n k (walked n (suc i) (lands n i x j) xs) ys) {x = suc i + length xs} {y = i + suc (length xs)} (omega arith)
+
+  -- the switch in the next column
+  pub switch-next : (s : ℕ) (cs : List ℕ) (k : ℕ) → k < length cs → switchAt n s cs (suc k) ≡ lands n k (getD cs k 0) (switchAt n s cs k)
+  unfolding walked
+  switch-next s cs k h =
+      let l : length (take k cs) ≡ k = length-take-le k cs (omega arith) in
+      ap (walked n 0 s) (take-suc cs k 0 h)
+      ∙ walked-on 0 s (take k cs) (getD cs k 0 ∷ [])
+      ∙ ap (λ (m : ℕ). lands n m (getD cs k 0) (switchAt n s cs k)) {x = 0 + length (take k cs)} {y = k} (omega arith)
 
   -- from stage i on the bits below bit i never change again
   pub low-bits-settle : (i j : ℕ) (cs : List ℕ) → i + length cs ≤ n → Agree i (walked n i j cs) j

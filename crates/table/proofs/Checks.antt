@@ -5,6 +5,7 @@ use mathlib.Core.List.{List, [], _∷_}
 use mathlib.Core.Logic.{_⊎_, inl, inr, ⊎-elim}
 use Prim.Native.Nat.{ℕ}
 use native.Mathlib.Omega.{arith}
+use Rattle.table.specs.Reply.{Reply.accepted, refused}
 use Rattle.table.specs.Checks.{Check, checked, Given, Passed}
 
 module _ {A : Type 0} (refuse : ℕ → A) (accept : A) where
@@ -35,3 +36,14 @@ pub not-given-and-passed : (k : ℕ) (cs : List Check) → Given k cs → Passed
 not-given-and-passed k cs g p =
     let e : _≡_ {A = ℕ} 1 0 = sym (given-refuses (λ m. 1) 0 k cs g) ∙ passed-accepts (λ m. 1) 0 cs p in
     omega arith
+
+-- an entry that accepts has passed every check
+pub accepted-passed : (cs : List Check) (v w : List ℕ) → accepted w ≡ checked cs refused (accepted v) → Passed cs
+accepted-passed cs v w e = go (given-or-passed cs)
+  where
+    go : ((k : ℕ) × Given k cs) ⊎ Passed cs → Passed cs
+    go (inl g) =
+        let f : accepted w ≡ refused (g .0) = e ∙ given-refuses refused (accepted v) (g .0) cs (g .1) in
+        let z : _≡_ {A = ℕ} 0 1 = cc in
+        absurd (omega arith)
+    go (inr p) = p

@@ -4,31 +4,22 @@ use Rattle.fabric.proofs.Links.{lands-lt, lands-minus}
 use borrow.Author.Needs.{needs}
 use Rattle.fabric.proofs.landing.Statement.{statement}
 use Rattle.fabric.proofs.landing.Tie as tie
-use Rattle.fabric.proofs.landing.Reads as reads
-use Rattle.fabric.proofs.landing.Lts as lts
-use Rattle.fabric.proofs.minus.Reads as minus-reads
-use Rattle.fabric.proofs.plus.Reads as plus-reads
 
--- src/lib.rt:65:9
 returns : tie.Need-returns
 returns c = search needs
 
--- src/lib.rt:68:9
 plus-requires : tie.Need-plus-requires
 plus-requires c κs = search needs
 
--- src/lib.rt:68:9
 returns-2 : tie.Need-returns-2
 returns-2 c =
     let a = c .before .before .before .args in
     let e = c .plus .ensures in
     (rw (c .before .if2 .taken) e, rw e (lands-lt (a .n) (a .i) 1 (a .j) (search needs)))
 
--- src/lib.rt:70:5
 minus-requires : tie.Need-minus-requires
 minus-requires c κs = search needs
 
--- src/lib.rt:60:1
 returns-3 : tie.Need-returns-3
 returns-3 c =
     let a = c .before .before .before .args in

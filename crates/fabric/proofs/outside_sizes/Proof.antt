@@ -4,14 +4,10 @@ use borrow.Author.Tests.{lt-ltb, le-ltb, ltb-false}
 use borrow.Author.Needs.{needs}
 use Rattle.fabric.proofs.outside_sizes.Statement.{statement}
 use Rattle.fabric.proofs.outside_sizes.Tie as tie
-use Rattle.fabric.proofs.outside_sizes.Reads as reads
-use Rattle.fabric.proofs.outside_sizes.Lts as lts
 
--- src/lib.rt:14:9
 returns : tie.Need-returns
 returns c = (rw (lt-ltb (c .before .args .n) 1 (c .if1 .taken)), λ e. absurd (true≢false e))
 
--- src/lib.rt:10:1
 returns-2 : tie.Need-returns-2
 returns-2 c = (rw (le-ltb (c .before .args .n) 1 (c .if1 .left)), λ e. (omega arith, ltb-false 12 (c .before .args .n) e))
 

@@ -6,14 +6,10 @@ use lib.Pow.{shl-exact}
 use borrow.Author.Needs.{needs}
 use Rattle.fabric.proofs.size.Statement.{statement}
 use Rattle.fabric.proofs.size.Tie as tie
-use Rattle.fabric.proofs.size.Reads as reads
-use Rattle.fabric.proofs.size.Lts as lts
 
--- src/lib.rt:24:5
 shl-result : tie.Need-shl-result
 shl-result c = search needs
 
--- src/lib.rt:20:1
 returns : tie.Need-returns
 returns c = shl-exact 1 (c .args .n) 16 (omega arith) (omega arith) ∙ one-mul (2 ^ c .args .n)
 

@@ -1,0 +1,7 @@
+pub mod Table
+pub mod Steps
+pub mod States
+pub mod NormalTags
+pub mod Lent
+pub mod Reading
+pub mod Entries

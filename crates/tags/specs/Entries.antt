@@ -1,0 +1,52 @@
+-- Document 01, 'Numbers handed back', "Entries and order of checks": what tag to steps, steps to tag and the normal form
+-- of a tag answer, and what they leave in the lent memory.
+use Prim.Native.Nat.{ℕ}
+use mathlib.Core.Path.{_≡_}
+use mathlib.Core.Bool.{Bool, false, _||_}
+use mathlib.Core.List.{List, [], _∷_, _++_}
+use lib.ListN.{length, take, drop}
+use Rattle.table.specs.Numbers.{numberOf}
+use Rattle.table.specs.Reply.{Reply, refused}
+use Rattle.table.specs.Checks.{Check, checked, _when_, _below_, _notBelow_}
+use Rattle.fabric.specs.Labels.{size, outsideSizes}
+use Rattle.tags.specs.Tags.{tags, stepsOf, normalTag}
+use Rattle.tags.specs.declared.Written.{Written}
+use Rattle.tags.specs.declared.Tag.{Tag}
+
+-- the number and values of each answer
+abbrev pub writtenSays : Written → Reply
+writtenSays Written.Done = Reply.accepted []
+writtenSays (Written.Refused r) = refused (numberOf r)
+
+abbrev pub tagSays : Tag → Reply
+tagSays (Tag.Normal t) = Reply.accepted (t ∷ [])
+tagSays (Tag.Refused r) = refused (numberOf r)
+
+-- "a code above 2"
+abbrev pub someAboveTwo : List ℕ → Bool
+someAboveTwo [] = false
+someAboveTwo (c ∷ cs) = 2 below c || someAboveTwo cs
+
+-- "tag to steps (n, source, tag, memory): 1, 10, 12, 13. It writes n bytes at the front."
+abbrev pub tagToStepsChecks : ℕ → ℕ → ℕ → List ℕ → List Check
+tagToStepsChecks n s tag m =
+    (1 when outsideSizes n) ∷ (10 when s notBelow size n) ∷ (12 when tag notBelow tags n) ∷ (13 when length m below n) ∷ []
+
+pub record TagToSteps (n s tag : ℕ) (lent : List ℕ) (answer : Written) (left : List ℕ) : Type 0 where
+  pub says : writtenSays answer ≡ checked (tagToStepsChecks n s tag lent) refused (Reply.accepted [])
+  pub leaves : left ≡ checked (tagToStepsChecks n s tag lent) (λ k. lent) (stepsOf n s tag ++ drop n lent)
+
+-- "steps to tag (n, source, memory): 1, 10, 13, 12. Bytes after the first n are not read."
+abbrev pub stepsToTagChecks : ℕ → ℕ → List ℕ → List Check
+stepsToTagChecks n s m =
+    (1 when outsideSizes n) ∷ (10 when s notBelow size n) ∷ (13 when length m below n) ∷ (12 when someAboveTwo (take n m)) ∷ []
+
+pub record StepsToTag (n s : ℕ) (lent : List ℕ) (answer : Tag) : Type 0 where
+  pub says : tagSays answer ≡ checked (stepsToTagChecks n s lent) refused (Reply.accepted (normalTag n s (take n lent) ∷ []))
+
+-- "normal form of a tag (n, source, tag): 1, 10, 12."
+abbrev pub normalFormChecks : ℕ → ℕ → ℕ → List Check
+normalFormChecks n s tag = (1 when outsideSizes n) ∷ (10 when s notBelow size n) ∷ (12 when tag notBelow tags n) ∷ []
+
+pub record NormalForm (n s tag : ℕ) (answer : Tag) : Type 0 where
+  pub says : tagSays answer ≡ checked (normalFormChecks n s tag) refused (Reply.accepted (normalTag n s (stepsOf n s tag) ∷ []))

@@ -1,0 +1,50 @@
+// Document 01, 'tag to steps'.
+use crate::Written;
+use crate::scheme::outside_tags;
+use crate::scheme::step_of;
+use table::Refusal;
+ghost use mathlib.Core.Path.{_≡_};
+ghost use mathlib.Core.List.{_++_};
+ghost use Prim.Native.Nat.{_≤_, _<_};
+ghost use lib.ListN.{length, drop};
+ghost use Rattle.fabric.specs.Labels.{size};
+ghost use Rattle.tags.specs.Tags.{stepsOf};
+ghost use Rattle.tags.specs.Entries.{TagToSteps};
+
+// The steps of a tag at the front of the memory; the rest stays.
+pub fn write_steps(n: u8, source: u16, tag: u32, memory: &mut [u8])
+    requires { ⌜ (n ≤ 12) × (source < size n) × (n ≤ length (now memory)) ⌝ }
+    ensures { λ _. ⌜ now (memory .exit) ≡ stepsOf n source tag ++ drop n (now (memory .entry)) ⌝ }
+{
+    let mut j = source;
+    let mut i = 0;
+    while i < n {
+        let code = step_of(n, tag, i, j);
+        memory[i as usize] = code;
+        j = fabric::landing(n, i, code, j);
+        i += 1;
+    }
+}
+
+// Document 01, 'tag to steps': 1, 10, 12, 13.
+pub fn tag_to_steps(n: u8, source: u16, tag: u32, memory: &mut [u8]) -> Written
+    ensures { λ r. ⌜ TagToSteps n source tag (now (memory .entry)) r (now (memory .exit)) ⌝ }
+{
+    if fabric::outside_sizes(n) {
+        return Written::Refused(Refusal::Size);
+    }
+    let far = fabric::outside_labels(n, source);
+    let large = outside_tags(n, tag);
+    let short = memory.len() < n as usize;
+    if far {
+        return Written::Refused(Refusal::Label);
+    }
+    if large {
+        return Written::Refused(Refusal::Tag);
+    }
+    if short {
+        return Written::Refused(Refusal::Room);
+    }
+    write_steps(n, source, tag, memory);
+    Written::Done
+}
