@@ -24,8 +24,8 @@ lands-minus n i (suc (suc c)) j h = refl
 module _ (n i : ℕ) where
   pub lands-lt : (c j : ℕ) → j < size n → lands n i c j < size n
   lands-lt zero j h = h
-  lands-lt (suc zero) j h = mod-lt (j + 2 ^ i) (pow-pos n)
-  lands-lt (suc (suc c)) j h = mod-lt (j + (size n - 2 ^ i)) (pow-pos n)
+  lands-lt (suc zero) j h = mod-lt _ (pow-pos n)
+  lands-lt (suc (suc c)) j h = mod-lt _ (pow-pos n)
 
 module _ (n i : ℕ) (h : i < n) where
   whole : (size n - 2 ^ i) + 2 ^ i ≡ size n

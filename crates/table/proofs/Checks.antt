@@ -2,30 +2,32 @@
 use mathlib.Core.Path.{_≡_, refl, sym, ap, _∙_}
 use mathlib.Core.Bool.{Bool, true, false}
 use mathlib.Core.List.{List, [], _∷_}
-use mathlib.Core.Logic.{_⊎_, inl, inr, ⊎-elim}
-use Prim.Native.Nat.{ℕ}
+use mathlib.Core.Logic.{_⊎_, inl, inr}
+use Prim.Native.Nat.{ℕ, zero, suc, _≤_, _<_}
 use native.Mathlib.Omega.{arith}
+use lib.ListN.{getD}
+use borrow.Author.Tests.{lt-ltb, le-ltb, le-leb, lt-leb, eq-eqb, ne-eqb, ltb-false, leb-false}
 use Rattle.table.specs.Reply.{Reply.accepted, refused}
-use Rattle.table.specs.Checks.{Check, checked, Given, Passed}
+use Rattle.table.specs.Checks.{Check, _when_, _below_, _notBelow_, checked, Given, Given.here, Given.later, Passed, Passed.none, Passed.passes}
 
 module _ {A : Type 0} (refuse : ℕ → A) (accept : A) where
   pub given-refuses : (k : ℕ) (cs : List Check) → Given k cs → checked cs refuse accept ≡ refuse k
-  given-refuses k [] g = absurd g
-  given-refuses k (c ∷ cs) g = ⊎-elim (λ w. rw (w .0, w .1)) (λ w. rw (w .0) (given-refuses k cs (w .1))) g
+  given-refuses k (c ∷ cs) (here h e) = rw (h, e)
+  given-refuses k (c ∷ cs) (later h g) = rw h (given-refuses k cs g)
 
   pub passed-accepts : (cs : List Check) → Passed cs → checked cs refuse accept ≡ accept
-  passed-accepts [] p = refl
-  passed-accepts (c ∷ cs) p = rw (p .0) (passed-accepts cs (p .1))
+  passed-accepts [] none = refl
+  passed-accepts (c ∷ cs) (passes h p) = rw h (passed-accepts cs p)
 
 -- some number is given, or every check is passed
 pub given-or-passed : (cs : List Check) → ((k : ℕ) × Given k cs) ⊎ Passed cs
-given-or-passed [] = inr tt
+given-or-passed [] = inr none
 given-or-passed (c ∷ cs) = go (c .holds) refl (given-or-passed cs)
   where
     go : (b : Bool) → c .holds ≡ b → ((k : ℕ) × Given k cs) ⊎ Passed cs → ((k : ℕ) × Given k (c ∷ cs)) ⊎ Passed (c ∷ cs)
-    go true e rest = inl (c .number, inl (e, refl))
-    go false e (inl g) = inl (g .0, inr (e, g .1))
-    go false e (inr p) = inr (e, p)
+    go true e rest = inl (c .number, here e refl)
+    go false e (inl g) = inl (g .0, later e (g .1))
+    go false e (inr p) = inr (passes e p)
 
 -- and no two numbers are given
 pub given-once : (j k : ℕ) (cs : List Check) → Given j cs → Given k cs → j ≡ k
@@ -47,3 +49,24 @@ accepted-passed cs v w e = go (given-or-passed cs)
         let z : _≡_ {A = ℕ} 0 1 = cc in
         absurd (omega arith)
     go (inr p) = p
+
+-- and so each of them
+pub passed-nth : (cs : List Check) (k : ℕ) → Passed cs → getD cs k (0 when false) .holds ≡ false
+passed-nth [] k none = refl
+passed-nth (c ∷ cs) zero (passes h p) = h
+passed-nth (c ∷ cs) (suc k) (passes h p) = passed-nth cs k p
+
+-- what a test that the code made says of the test that it stands for
+pub by-test : {made meant value : Bool} → made ≡ meant → made ≡ value → meant ≡ value
+by-test e v = sym e ∙ v
+
+pub not-below : {made : Bool} {a b : ℕ} → made ≡ (a below b) → made ≡ false → b ≤ a
+not-below {made} {a} {b} e v = ltb-false a b (by-test e v)
+
+pub is-below : {made : Bool} {a b : ℕ} → made ≡ (a notBelow b) → made ≡ false → a < b
+is-below {made} {a} {b} e v = leb-false b a (by-test e v)
+
+-- how an entry is shown to refuse by its checks, and to pass them: `search (LAW, refusing) depth 10`
+pub ruleset refusing = (here, later, refl, by-test, lt-ltb, le-ltb, le-leb, lt-leb, eq-eqb, ne-eqb)
+
+pub ruleset accepting = (none, passes, by-test, le-ltb, lt-leb, ne-eqb)

@@ -3,7 +3,6 @@ use Prim.Native.Nat.{ℕ}
 use mathlib.Core.Path.{_≡_}
 use mathlib.Core.Bool.{Bool, true, false, cond}
 use mathlib.Core.List.{List, [], _∷_}
-use mathlib.Core.Logic.{_⊎_}
 use lib.Dec.{leb, ltb}
 
 -- a number of the table, and whether its line holds
@@ -28,11 +27,11 @@ checked [] refuse accept = accept
 checked (c ∷ cs) refuse accept = cond (c .holds) (refuse (c .number)) (checked cs refuse accept)
 
 -- the line of number k holds and no earlier one does
-abbrev pub Given : ℕ → List Check → Type 0
-Given k [] = ⊥
-Given k (c ∷ cs) = ((c .holds ≡ true) × (c .number ≡ k)) ⊎ ((c .holds ≡ false) × Given k cs)
+pub data Given (k : ℕ) : List Check → Type 0 where
+  here : {c : Check} {cs : List Check} → c .holds ≡ true → c .number ≡ k → Given k (c ∷ cs)
+  later : {c : Check} {cs : List Check} → c .holds ≡ false → Given k cs → Given k (c ∷ cs)
 
 -- no line holds
-abbrev pub Passed : List Check → Type 0
-Passed [] = Unit
-Passed (c ∷ cs) = (c .holds ≡ false) × Passed cs
+pub data Passed : List Check → Type 0 where
+  none : Passed []
+  passes : {c : Check} {cs : List Check} → c .holds ≡ false → Passed cs → Passed (c ∷ cs)

@@ -10,9 +10,9 @@ use lib.Seq.{length-take-le, take-at}
 use Rattle.table.specs.declared.Refusal.{Refusal}
 use Rattle.table.specs.Numbers.{numberOf}
 use Rattle.table.specs.Reply.{Reply, Reply.accepted, refused}
-use Rattle.table.specs.Checks.{checked, Passed, _below_, _notBelow_}
+use Rattle.table.specs.Checks.{checked, Passed, Passed.none, Passed.passes, _when_, _below_}
 use Rattle.table.proofs.Numbers.{number-tells}
-use Rattle.table.proofs.Checks.{passed-accepts, accepted-passed}
+use Rattle.table.proofs.Checks.{passed-accepts, accepted-passed, passed-nth}
 use Rattle.fabric.specs.Labels.{size, outsideSizes}
 use Rattle.fabric.specs.Walks.{Codes, Steps, walked}
 use Rattle.tags.specs.declared.Written.{Written}
@@ -93,8 +93,8 @@ module _ (n s : ℕ) (lent : List ℕ) (tag : ℕ) (given : StepsToTag n s lent 
   read-are-steps : Steps n (take n lent)
   read-are-steps =
       record {
-        stages = length-take-le n lent (ltb-false (length lent) n (steps-to-tag-passed .1 .1 .0));
-        codes = pass-codes (take n lent) (steps-to-tag-passed .1 .1 .1 .0);
+        stages = length-take-le n lent (ltb-false (length lent) n (passed-nth (stepsToTagChecks n s lent) 2 steps-to-tag-passed));
+        codes = pass-codes (take n lent) (passed-nth (stepsToTagChecks n s lent) 3 steps-to-tag-passed);
       }
 
 module _ (n s tag t : ℕ) (given : NormalForm n s tag (Tag.Normal t)) where
@@ -108,7 +108,7 @@ module _ (n s tag t : ℕ) (given : NormalForm n s tag (Tag.Normal t)) where
       cc
 
   label : s < size n
-  label = leb-false (size n) s (normal-form-passed .1 .0)
+  label = leb-false (size n) s (passed-nth (normalFormChecks n s tag) 1 normal-form-passed)
 
   -- the normal form keeps destination and links
   pub form-keeps-destination : destination n t ≡ destination n tag
@@ -126,7 +126,7 @@ module _ (n s tag t : ℕ) (given : NormalForm n s tag (Tag.Normal t)) where
 
   form-accepted : (u : ℕ) → u < tags n → stepsOf n s u ≡ stepsOf n s tag → (b : Tag) → NormalForm n s u b → b ≡ Tag.Normal t
   form-accepted u l e b q =
-      let passed : Passed (normalFormChecks n s u) = (normal-form-passed .0, (normal-form-passed .1 .0, (lt-leb (tags n) u l, tt))) in
+      let passed : Passed (normalFormChecks n s u) = passes (passed-nth (normalFormChecks n s tag) 0 normal-form-passed) (passes (passed-nth (normalFormChecks n s tag) 1 normal-form-passed) (passes (lt-leb (tags n) u l) none)) in
       tag-tells b (Tag.Normal t)
       (q .says
       ∙ passed-accepts refused (accepted (normalTag n s (stepsOf n s u) ∷ [])) (normalFormChecks n s u) passed
@@ -144,11 +144,11 @@ pub steps-tag-steps : (n s : ℕ) (lent : List ℕ) (tag : ℕ) → StepsToTag n
     → (a ≡ Written.Done) × (left ≡ take n lent ++ drop n other)
 steps-tag-steps n s lent tag given other left a room p =
     let e = gave-normal n s lent tag given in
-    let ok = steps-to-tag-passed n s lent tag given in
-    let label : s < size n = leb-false (size n) s (ok .1 .0) in
+    let ok : (k : ℕ) → getD (stepsToTagChecks n s lent) k (0 when false) .holds ≡ false = λ k. passed-nth (stepsToTagChecks n s lent) k (steps-to-tag-passed n s lent tag given) in
+    let label : s < size n = leb-false (size n) s (ok 1) in
     let steps = read-are-steps n s lent tag given in
     let small : tag < tags n = subst (λ (x : ℕ). x < tags n) (sym e) (normal-is-tag n s label (take n lent) (steps .stages)) in
-    let passed : Passed (tagToStepsChecks n s tag other) = (ok .0, (ok .1 .0, (lt-leb (tags n) tag small, (le-ltb (length other) n room, tt)))) in (
+    let passed : Passed (tagToStepsChecks n s tag other) = passes (ok 0) (passes (ok 1) (passes (lt-leb (tags n) tag small) (passes (le-ltb (length other) n room) none))) in (
       written-tells a Written.Done (p .says ∙ passed-accepts refused (accepted []) (tagToStepsChecks n s tag other) passed),
       p .leaves
           ∙ passed-accepts (λ k. other) (stepsOf n s tag ++ drop n other) (tagToStepsChecks n s tag other) passed
@@ -162,13 +162,14 @@ pub tag-steps-tag : (n s tag : ℕ) (lent left : List ℕ) → TagToSteps n s ta
 tag-steps-tag n s tag lent left done a b p q =
     let cs : List ℕ = stepsOf n s tag in
     let steps = steps-of-tag n s tag in
-    let ok = tag-to-steps-passed n s tag lent left done in
+    let ok : (k : ℕ) → getD (tagToStepsChecks n s tag lent) k (0 when false) .holds ≡ false = λ k. passed-nth (tagToStepsChecks n s tag lent) k (tag-to-steps-passed n s tag lent left done) in
     let e = wrote n s tag lent left done in
     let front : take n left ≡ cs = ap (take n) e ∙ take-at cs (drop n lent) n (steps .stages) in
     let l = steps .stages in
     let long : n ≤ length left = rw e (simp length-append (omega arith)) in
-    let passed : Passed (stepsToTagChecks n s left) = (ok .0, (ok .1 .0, (le-ltb (length left) n long, (rw front (codes-pass cs (steps .codes)), tt)))) in
-    let passed' : Passed (normalFormChecks n s tag) = (ok .0, (ok .1 .0, (ok .1 .1 .0, tt))) in
+    let codes : someAboveTwo (take n left) ≡ false = rw front (codes-pass cs (steps .codes)) in
+    let passed : Passed (stepsToTagChecks n s left) = passes (ok 0) (passes (ok 1) (passes (le-ltb (length left) n long) (passes codes none))) in
+    let passed' : Passed (normalFormChecks n s tag) = passes (ok 0) (passes (ok 1) (passes (ok 2) none)) in
     tag-tells a b
     (p .says
     ∙ passed-accepts refused (accepted (normalTag n s (take n left) ∷ [])) (stepsToTagChecks n s left) passed

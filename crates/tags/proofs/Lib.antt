@@ -4,4 +4,5 @@ pub mod States
 pub mod NormalTags
 pub mod Lent
 pub mod Reading
+pub mod Promises
 pub mod Entries

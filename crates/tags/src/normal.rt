@@ -27,12 +27,10 @@ pub fn normal_form(n: u8, source: u16, tag: u32) -> Tag
     if fabric::outside_sizes(n) {
         return Tag::Refused(Refusal::Size);
     }
-    let far = fabric::outside_labels(n, source);
-    let large = outside_tags(n, tag);
-    if far {
+    if fabric::outside_labels(n, source) {
         return Tag::Refused(Refusal::Label);
     }
-    if large {
+    if outside_tags(n, tag) {
         return Tag::Refused(Refusal::Tag);
     }
     Tag::Normal(normal_of(n, source, tag))

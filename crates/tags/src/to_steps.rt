@@ -33,16 +33,13 @@ pub fn tag_to_steps(n: u8, source: u16, tag: u32, memory: &mut [u8]) -> Written
     if fabric::outside_sizes(n) {
         return Written::Refused(Refusal::Size);
     }
-    let far = fabric::outside_labels(n, source);
-    let large = outside_tags(n, tag);
-    let short = memory.len() < n as usize;
-    if far {
+    if fabric::outside_labels(n, source) {
         return Written::Refused(Refusal::Label);
     }
-    if large {
+    if outside_tags(n, tag) {
         return Written::Refused(Refusal::Tag);
     }
-    if short {
+    if memory.len() < n as usize {
         return Written::Refused(Refusal::Room);
     }
     write_steps(n, source, tag, memory);

@@ -67,16 +67,13 @@ pub fn steps_to_tag(n: u8, source: u16, memory: &[u8]) -> Tag
     if fabric::outside_sizes(n) {
         return Tag::Refused(Refusal::Size);
     }
-    let far = fabric::outside_labels(n, source);
-    let short = memory.len() < n as usize;
-    let above = some_above_two(n, memory);
-    if far {
+    if fabric::outside_labels(n, source) {
         return Tag::Refused(Refusal::Label);
     }
-    if short {
+    if memory.len() < n as usize {
         return Tag::Refused(Refusal::Room);
     }
-    if above {
+    if some_above_two(n, memory) {
         return Tag::Refused(Refusal::Tag);
     }
     Tag::Normal(read_steps(n, source, memory))

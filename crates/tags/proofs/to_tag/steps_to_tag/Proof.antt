@@ -1,59 +1,37 @@
-use borrow.Author.Tests.{ltb-false}
--- Each refusal holds by the test that led to it and the tests passed before it.
-use Prim.Native.Nat.{ℕ}
-use mathlib.Core.List.{[], _∷_}
-use Rattle.table.specs.Reply.{Reply.accepted}
-use mathlib.Core.Path.{sym, ap, _∙_}
+-- Each refusal is the number of the first check that holds; where none does, the work gives the answer.
 use borrow.Author.Needs.{needs}
+use Rattle.table.proofs.Checks.{refusing, accepting}
+use Rattle.fabric.proofs.Tests.{bounds}
+use Rattle.tags.proofs.Promises.{to-tag-refuses, to-tag-accepts}
 use Rattle.tags.proofs.to_tag.steps_to_tag.Statement.{statement}
 use Rattle.tags.proofs.to_tag.steps_to_tag.Tie as tie
 
 outside-sizes-requires : tie.Need-outside-sizes-requires
-outside-sizes-requires c κs = search needs
+outside-sizes-requires c κs = search (needs, bounds)
 
 returns : tie.Need-returns
-returns c =
-    let t1 = sym (c .before .outside-sizes .ensures .0) ∙ c .if1 .taken in
-    record { says = rw t1 }
+returns c = search (to-tag-refuses, refusing) depth 10
 
 outside-labels-requires : tie.Need-outside-labels-requires
-outside-labels-requires c κs = c .before .outside-sizes .ensures .1 (c .if1 .left) .1
-
-some-above-two-requires : tie.Need-some-above-two-requires
-some-above-two-requires c κs = search needs
+outside-labels-requires c κs = search (needs, bounds)
 
 returns-2 : tie.Need-returns-2
-returns-2 c =
-    let t1 = sym (c .before .before .before .before .outside-sizes .ensures .0) ∙ c .before .before .before .if1 .left in
-    let t2 = sym (c .before .before .outside-labels .ensures .0) ∙ c .if2 .taken in
-    record { says = rw (t1, t2) }
+returns-2 c = search (to-tag-refuses, refusing) depth 10
 
 returns-3 : tie.Need-returns-3
-returns-3 c =
-    let t1 = sym (c .before .before .before .before .before .outside-sizes .ensures .0) ∙ c .before .before .before .before .if1 .left in
-    let t2 = sym (c .before .before .before .outside-labels .ensures .0) ∙ c .before .if2 .left in
-    let t3 = c .if3 .taken in
-    record { says = rw (t1, t2, t3) }
+returns-3 c = search (to-tag-refuses, refusing) depth 10
+
+some-above-two-requires : tie.Need-some-above-two-requires
+some-above-two-requires c κs = search (needs, bounds)
 
 returns-4 : tie.Need-returns-4
-returns-4 c =
-    let t1 = sym (c .before .before .before .before .before .before .outside-sizes .ensures .0) ∙ c .before .before .before .before .before .if1 .left in
-    let t2 = sym (c .before .before .before .before .outside-labels .ensures .0) ∙ c .before .before .if2 .left in
-    let t3 = c .before .if3 .left in
-    let t4 = sym (c .before .before .before .some-above-two .ensures) ∙ c .if4 .taken in
-    record { says = rw (t1, t2, t3, t4) }
+returns-4 c = search (to-tag-refuses, refusing) depth 10
 
 read-steps-requires : tie.Need-read-steps-requires
-read-steps-requires c κs =
-    (c .before .before .before .before .before .before .outside-sizes .ensures .1 (c .before .before .before .before .before .if1 .left) .1, c .before .before .before .before .outside-labels .ensures .1 (c .before .before .if2 .left), ltb-false _ _ (c .before .if3 .left))
+read-steps-requires c κs = search (needs, bounds)
 
 returns-5 : tie.Need-returns-5
-returns-5 c =
-    let t1 = sym (c .before .before .before .before .before .before .before .outside-sizes .ensures .0) ∙ c .before .before .before .before .before .before .if1 .left in
-    let t2 = sym (c .before .before .before .before .before .outside-labels .ensures .0) ∙ c .before .before .before .if2 .left in
-    let t3 = c .before .before .if3 .left in
-    let t4 = sym (c .before .before .before .before .some-above-two .ensures) ∙ c .before .if4 .left in
-    record { says = rw (t1, t2, t3, t4) (ap (λ (t : ℕ). accepted (t ∷ [])) (c .read-steps .ensures)) }
+returns-5 c = search (to-tag-accepts, accepting) depth 10
 
 pub steps-to-tag-spec : {M : Type 1} → statement M
 steps-to-tag-spec =
@@ -62,9 +40,9 @@ steps-to-tag-spec =
     outside-sizes-requires
     returns
     outside-labels-requires
-    some-above-two-requires
     returns-2
     returns-3
+    some-above-two-requires
     returns-4
     read-steps-requires
     returns-5)
