@@ -1,10 +1,10 @@
 -- Laws of the low bits of a number.
-use mathlib.Core.Path.{_≡_, refl, sym, ap, ap₂, subst, _∙_}
+use mathlib.Core.Path.{_≡_, sym, ap, ap₂, subst, _∙_}
 use Prim.Native.Nat.{ℕ, zero, suc, _+_, _-_, _*_, _/_, _%_, _^_, _≤_, _<_}
-use native.Mathlib.Nat.{mod-lt, mod-eq-of-lt, add-mod-mod, mod-add-mod, add-mod, pow-suc, mul-add-mod-self-right, add-mul-mod-self-right}
+use native.Mathlib.Nat.{mod-lt, mod-eq-of-lt, mod-add-mod, pow-suc, add-mul-mod-self-right}
 use native.Mathlib.Decide.{ℕ-discrete}
 use native.Mathlib.Omega.{arith}
-use lib.Pow.{pow-pos, pow-add, mod-pow-add, mod-mod-pow, field, split, shr-shr}
+use lib.Pow.{pow-pos, mod-pow-add, mod-mod-pow, field}
 use Rattle.fabric.specs.Labels.{bit, Agree}
 
 pub bit-lt : (i x : ℕ) → bit i x < 2

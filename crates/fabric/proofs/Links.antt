@@ -1,7 +1,7 @@
 -- Laws of a single link: document 000's lemma 2.1, without the table that chooses the link.
-use mathlib.Core.Path.{_≡_, refl, sym, ap, subst, _∙_}
-use Prim.Native.Nat.{ℕ, zero, suc, _+_, _-_, _*_, _/_, _%_, _^_, _≤_, _<_}
-use native.Mathlib.Nat.{mod-lt, mod-eq-of-lt, add-mod-mod, mod-add-mod, mod-mod, pow-suc, add-mod-right, mul-add-mod-self-right, suc-mul}
+use mathlib.Core.Path.{_≡_, refl, sym, ap, _∙_}
+use Prim.Native.Nat.{ℕ, zero, suc, _+_, _-_, _*_, _%_, _^_, _≤_, _<_}
+use native.Mathlib.Nat.{mod-lt, mod-eq-of-lt, mod-add-mod, mod-mod, pow-suc, add-mod-right, mul-add-mod-self-right, suc-mul}
 use native.Mathlib.Omega.{arith}
 use lib.Pow.{pow-pos, pow-mono, pow-add, high}
 use Rattle.fabric.specs.Labels.{size, bit, Agree}
@@ -45,6 +45,12 @@ module _ (n i : ℕ) (h : i < n) where
       ∙ ap (λ (x : ℕ). x % size n) {x = j + 2 ^ i + (size n - 2 ^ i)} {y = j + size n} (omega (arith, whole))
       ∙ add-mod-right j (size n)
       ∙ mod-eq-of-lt l
+
+  -- "At stage n-1 plus and minus reach the same switch"
+  pub last-stage-meets : suc i ≡ n → (j : ℕ) → lands n i 1 j ≡ lands n i 2 j
+  last-stage-meets e j =
+      let d : size n ≡ 2 ^ i * 2 = ap (λ (m : ℕ). 2 ^ m) (sym e) ∙ pow-suc 2 i in
+      ap (λ (x : ℕ). (j + x) % size n) {x = 2 ^ i} {y = size n - 2 ^ i} (omega arith)
 
   -- plus and minus are alike in the low bits up to bit i
   plus-low : (j : ℕ) → Agree (suc i) (lands n i 1 j) (j + 2 ^ i)

@@ -1,6 +1,6 @@
 -- A sum or a difference that wraps at 65,536 and is then reduced modulo N is exact, because N divides 65,536.
 use mathlib.Core.Path.{_≡_, sym, ap, _∙_}
-use Prim.Native.Nat.{ℕ, _+_, _-_, _^_, _%_, _≤_, _<_}
+use Prim.Native.Nat.{ℕ, _+_, _-_, _^_, _%_, _≤_}
 use native.Mathlib.Nat.{mod-add-mod, add-mod-right}
 use native.Mathlib.Omega.{arith}
 use lib.Pow.{pow-mono}

@@ -1,7 +1,7 @@
 -- Document 01, 'What the build covers' and 'Fabric': sizes and labels.
-use Prim.Native.Nat.{ℕ, _^_, _/_, _%_}
 use mathlib.Core.Path.{_≡_}
 use mathlib.Core.Bool.{Bool, _||_}
+use Prim.Native.Nat.{ℕ, _^_, _/_, _%_}
 use Rattle.table.specs.Checks.{_below_}
 
 -- "fabrics of n stages, n from 1 to 12"

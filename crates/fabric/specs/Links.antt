@@ -1,6 +1,5 @@
 -- Document 01, 'Fabric': the three links of a switch.
 use Prim.Native.Nat.{ℕ, zero, suc, _+_, _-_, _^_, _%_, _<_}
-use mathlib.Core.List.{List, [], _∷_}
 use Rattle.fabric.specs.Labels.{size}
 
 -- "straight (code 0), plus (code 1), minus (code 2)"

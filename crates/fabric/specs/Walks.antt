@@ -1,8 +1,8 @@
 -- Document 01, 'Fabric' and 'Tags and steps': "Stages 0 to n-1 hold links; columns 0 to n hold switches"; "Steps are n
 -- codes, stage 0 first."
-use Prim.Native.Nat.{ℕ, suc}
 use mathlib.Core.Path.{_≡_}
 use mathlib.Core.List.{List, [], _∷_}
+use Prim.Native.Nat.{ℕ, suc}
 use lib.ListN.{length, take}
 use Rattle.fabric.specs.Links.{Code, lands}
 
@@ -23,3 +23,8 @@ walked n i j (c ∷ cs) = walked n (suc i) (lands n i c j) cs
 -- the switch in column k of a walk that leaves source s
 abbrev pub switchAt : ℕ → ℕ → List ℕ → ℕ → ℕ
 switchAt n s cs k = walked n 0 s (take k cs)
+
+-- a path from s to d: n links, from column 0 to column n
+pub record Path (n s d : ℕ) (cs : List ℕ) : Type 0 where
+  pub steps : Steps n cs
+  pub arrives : walked n 0 s cs ≡ d

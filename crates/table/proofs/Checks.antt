@@ -1,12 +1,12 @@
 -- `checked` is document 01's sentence: a number is given exactly when its line holds and no earlier check failed.
-use mathlib.Core.Path.{_≡_, refl, sym, ap, _∙_}
+use mathlib.Core.Path.{_≡_, refl, sym, _∙_}
 use mathlib.Core.Bool.{Bool, true, false}
 use mathlib.Core.List.{List, [], _∷_}
 use mathlib.Core.Logic.{_⊎_, inl, inr}
 use Prim.Native.Nat.{ℕ, zero, suc, _≤_, _<_}
 use native.Mathlib.Omega.{arith}
-use lib.ListN.{getD}
 use borrow.Author.Tests.{lt-ltb, le-ltb, le-leb, lt-leb, eq-eqb, ne-eqb, ltb-false, leb-false}
+use lib.ListN.{getD}
 use Rattle.table.specs.Reply.{Reply.accepted, refused}
 use Rattle.table.specs.Checks.{Check, _when_, _below_, _notBelow_, checked, Given, Given.here, Given.later, Passed, Passed.none, Passed.passes}
 

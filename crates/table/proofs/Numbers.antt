@@ -1,26 +1,10 @@
 -- No two refusals have one number.
 use mathlib.Core.Path.{_≡_, refl, sym, ap, _∙_}
+use mathlib.Core.List.{[], _∷_}
 use Prim.Native.Nat.{ℕ}
 use lib.ListN.{getD}
-use mathlib.Core.List.{List, [], _∷_}
 use Rattle.table.specs.declared.Refusal.{Refusal}
-use Rattle.table.specs.declared.Refusal.the-variants.{
-  Size,
-  Layout,
-  Zero,
-  Place,
-  Field,
-  Wide,
-  Stands,
-  Full,
-  Absent,
-  Label,
-  Tag,
-  Room,
-  Mark,
-  Length,
-  Book,
-}
+use Rattle.table.specs.declared.Refusal.the-variants.{Size, Layout, Zero, Place, Field, Wide, Stands, Full, Absent, Label, Tag, Room, Mark, Length, Book}
 use Rattle.table.specs.Numbers.{numberOf}
 
 -- the refusals by their numbers; 0 and 11 have none of their own

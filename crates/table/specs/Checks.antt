@@ -1,8 +1,8 @@
 -- Document 01, 'Numbers handed back': "Each is given exactly when its line holds and no earlier check failed."
-use Prim.Native.Nat.{ℕ}
 use mathlib.Core.Path.{_≡_}
 use mathlib.Core.Bool.{Bool, true, false, cond}
 use mathlib.Core.List.{List, [], _∷_}
+use Prim.Native.Nat.{ℕ}
 use lib.Dec.{leb, ltb}
 
 -- a number of the table, and whether its line holds

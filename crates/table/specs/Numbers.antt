@@ -1,23 +1,7 @@
 -- Document 01, 'Numbers handed back': the number of each refusal.
 use Prim.Native.Nat.{ℕ}
 use Rattle.table.specs.declared.Refusal.{Refusal}
-use Rattle.table.specs.declared.Refusal.the-variants.{
-  Size,
-  Layout,
-  Zero,
-  Place,
-  Field,
-  Wide,
-  Stands,
-  Full,
-  Absent,
-  Label,
-  Tag,
-  Room,
-  Mark,
-  Length,
-  Book,
-}
+use Rattle.table.specs.declared.Refusal.the-variants.{Size, Layout, Zero, Place, Field, Wide, Stands, Full, Absent, Label, Tag, Room, Mark, Length, Book}
 
 abbrev pub numberOf : Refusal → ℕ
 numberOf Size = 1

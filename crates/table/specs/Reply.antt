@@ -1,7 +1,7 @@
 -- What an entry hands back, in document 01's terms: the values of an accepted call, or a number of the table with the
 -- values that belong to it. Every answer enum has a definition that gives its cases this form.
-use Prim.Native.Nat.{ℕ}
 use mathlib.Core.List.{List, []}
+use Prim.Native.Nat.{ℕ}
 
 pub data Reply : Type 0 where
   accepted : List ℕ → Reply

@@ -2,19 +2,18 @@
 use mathlib.Core.Path.{_≡_, refl, sym, ap, subst, _∙_}
 use mathlib.Core.Bool.{Bool, true, false, _||_, true≢false}
 use mathlib.Core.List.{List, [], _∷_, _++_}
-use Prim.Native.Nat.{ℕ, suc, _+_, _-_, _≤_, _<_}
+use Prim.Native.Nat.{ℕ, _≤_, _<_}
 use native.Mathlib.Omega.{arith}
-use borrow.Author.Tests.{lt-ltb, le-ltb, ltb-false, lt-leb, leb-false}
-use lib.ListN.{length, take, drop, getD, length-append, length-drop}
+use borrow.Author.Tests.{le-ltb, ltb-false, lt-leb, leb-false}
+use lib.ListN.{length, take, drop, getD, length-append}
 use lib.Seq.{length-take-le, take-at}
-use Rattle.table.specs.declared.Refusal.{Refusal}
 use Rattle.table.specs.Numbers.{numberOf}
 use Rattle.table.specs.Reply.{Reply, Reply.accepted, refused}
 use Rattle.table.specs.Checks.{checked, Passed, Passed.none, Passed.passes, _when_, _below_}
 use Rattle.table.proofs.Numbers.{number-tells}
 use Rattle.table.proofs.Checks.{passed-accepts, accepted-passed, passed-nth}
-use Rattle.fabric.specs.Labels.{size, outsideSizes}
-use Rattle.fabric.specs.Walks.{Codes, Steps, walked}
+use Rattle.fabric.specs.Labels.{size}
+use Rattle.fabric.specs.Walks.{Codes, Steps}
 use Rattle.tags.specs.declared.Written.{Written}
 use Rattle.tags.specs.declared.Tag.{Tag}
 use Rattle.tags.specs.Tags.{tags, destination, state, stepsOf, normalTag}

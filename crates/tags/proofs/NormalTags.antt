@@ -1,23 +1,22 @@
 -- Normal tags: steps from a source have one and only one, and tag to steps to tag clears exactly the state bits of straight
 -- steps.
-use mathlib.Core.Path.{_≡_, refl, sym, ap, ap₂, subst, _∙_}
-use mathlib.Core.List.{List, [], _∷_, _++_}
+use mathlib.Core.Path.{_≡_, refl, sym, ap, subst, _∙_}
+use mathlib.Core.List.{List, [], _∷_}
 use Prim.Native.Nat.{ℕ, zero, suc, _+_, _-_, _*_, _/_, _%_, _^_, _≤_, _<_}
-use native.Mathlib.Nat.{add-zero, zero-add, mul-suc, mul-le-mul-left, mod-eq-of-lt, add-mul-mod-self-left, add-mul-div-left, div-eq-of-lt, le-trans}
+use native.Mathlib.Nat.{zero-add, mul-suc, mul-le-mul-left, mod-eq-of-lt, add-mul-mod-self-left, add-mul-div-left, div-eq-of-lt}
 use native.Mathlib.Decide.{ℕ-discrete, decLt}
 use native.Mathlib.Omega.{arith}
-use lib.ListN.{length, take, drop, getD}
-use lib.Seq.{take-length}
+use lib.ListN.{length, getD}
 use lib.Pow.{shr-shr, pow-pos, pow-add}
 use Rattle.fabric.specs.Labels.{size, bit, Agree}
 use Rattle.fabric.specs.Links.{Code, lands}
-use Rattle.fabric.specs.Walks.{Codes, Steps, walked, switchAt}
+use Rattle.fabric.specs.Walks.{Codes, Steps, Path, walked, switchAt}
 use Rattle.fabric.proofs.Bits.{bit-lt, agree-below, agree-by-bits, agree-bit, bit-of-low}
 use Rattle.fabric.proofs.Links.{toward-straight, toward-nonstraight}
 use Rattle.fabric.proofs.Stages.{walked-lt, switch-next, arrives-agrees}
 use Rattle.tags.specs.Scheme.{link, stateFor}
 use Rattle.tags.specs.Tags.{tags, destination, state, stepsOf, statesOf, normalTag, IsNormal}
-use Rattle.tags.proofs.Table.{link-straight, link-turns, stateFor-link, link-stateFor}
+use Rattle.tags.proofs.Table.{link-straight, stateFor-link, link-stateFor}
 use Rattle.tags.proofs.Steps.{steps-of-tag, tag-arrives, tag-follows, follows-tag}
 use Rattle.tags.proofs.States.{states-lt, states-bit}
 
@@ -26,6 +25,21 @@ pub code-at : (cs : List ℕ) (k : ℕ) → Codes cs → Code (getD cs k 0)
 code-at [] k h = omega arith
 code-at (c ∷ cs) zero h = h .0
 code-at (c ∷ cs) (suc k) h = code-at cs k (h .1)
+
+-- a switch on a way to d uses its straight link where its bit is right, and otherwise one of its two nonstraight links, as
+-- the table says
+pub path-follows : (n s d : ℕ) (cs : List ℕ) → Path n s d cs → (k : ℕ) → k < n
+    → getD cs k 0 ≡ link (bit k (switchAt n s cs k)) (bit k d) (stateFor (bit k (switchAt n s cs k)) (getD cs k 0))
+path-follows n s d cs p k h =
+    let l = p .steps .stages in
+    let onward : Agree (suc k) (lands n k (getD cs k 0) (switchAt n s cs k)) d =
+    ap (λ (x : ℕ). x % 2 ^ suc k) (sym (switch-next n s cs k (omega arith))) ∙ arrives-agrees n s d cs (p .steps .stages) (p .arrives) (suc k) h in
+    go (switchAt n s cs k) (getD cs k 0) onward (code-at cs k (p .steps .codes)) (ℕ-discrete (bit k (switchAt n s cs k)) (bit k d))
+  where
+    go : (j c : ℕ) → Agree (suc k) (lands n k c j) d → Code c → Dec (bit k j ≡ bit k d) → c ≡ link (bit k j) (bit k d) (stateFor (bit k j) c)
+    go j c a hc (yes b) = toward-straight n k h c j d a b ∙ sym (link-straight (bit k j) (bit k d) (stateFor (bit k j) c) b)
+    go j c a hc (no b) =
+        sym (link-stateFor (bit k j) (bit k d) c (bit-lt k j) (bit-lt k d) hc (toward-nonstraight n k h c j d a b) b)
 
 module _ (n s : ℕ) (source : s < size n) (cs : List ℕ) where
   pub normal-destination : destination n (normalTag n s cs) ≡ walked n 0 s cs
@@ -56,19 +70,9 @@ module _ (n s : ℕ) (source : s < size n) (cs : List ℕ) where
   -- each step is the one that the table gives for its normal state
   normal-follows : Steps n cs → (k : ℕ) → k < n → getD cs k 0 ≡ link (bit k (switchAt n s cs k)) (bit k (normalTag n s cs)) (state n (normalTag n s cs) k)
   normal-follows p k h =
-      let j : ℕ = switchAt n s cs k in
-      let d : ℕ = walked n 0 s cs in
-      let c : ℕ = getD cs k 0 in
       let l = p .stages in
-      let e : bit k (normalTag n s cs) ≡ bit k d = sym (bit-of-low k n (normalTag n s cs) h) ∙ ap (bit k) normal-destination in
-      let a : Agree (suc k) (lands n k c j) d =
-      ap (λ (x : ℕ). x % 2 ^ suc k) (sym (switch-next n s cs k (omega arith))) ∙ arrives-agrees n s d cs (p .stages) refl (suc k) h in
-      rw (e, normal-state k (omega arith)) (go j d c a (code-at cs k (p .codes)) (ℕ-discrete (bit k j) (bit k d)))
-    where
-      go : (j d c : ℕ) → Agree (suc k) (lands n k c j) d → Code c → Dec (bit k j ≡ bit k d) → c ≡ link (bit k j) (bit k d) (stateFor (bit k j) c)
-      go j d c a hc (yes b) = toward-straight n k h c j d a b ∙ sym (link-straight (bit k j) (bit k d) (stateFor (bit k j) c) b)
-      go j d c a hc (no b) =
-          sym (link-stateFor (bit k j) (bit k d) c (bit-lt k j) (bit-lt k d) hc (toward-nonstraight n k h c j d a b) b)
+      let e : bit k (normalTag n s cs) ≡ bit k (walked n 0 s cs) = sym (bit-of-low k n (normalTag n s cs) h) ∙ ap (bit k) normal-destination in
+      rw (e, normal-state k (omega arith)) (path-follows n s (walked n 0 s cs) cs (record { steps = p; arrives = refl }) k h)
 
   -- steps to tag to steps gives the steps back
   pub steps-come-back : Steps n cs → stepsOf n s (normalTag n s cs) ≡ cs
@@ -133,3 +137,8 @@ module _ (n s : ℕ) (source : s < size n) (tag : ℕ) where
 pub normal-tag-only : (n s : ℕ) → s < size n → (cs : List ℕ) (tag : ℕ) → IsNormal n s cs tag → tag ≡ normalTag n s cs
 normal-tag-only n s source cs tag p =
     calm-is-normal n s source tag (p .isTag) (λ k h z. p .calm k h (sym (ap (λ (l : List ℕ). getD l k 0) (p .leads)) ∙ z)) ∙ ap (normalTag n s) (p .leads)
+
+-- and different steps have different ones
+pub normal-tags-differ : (n s : ℕ) → s < size n → (cs ds : List ℕ) → Steps n cs → Steps n ds → normalTag n s cs ≡ normalTag n s ds → cs ≡ ds
+normal-tags-differ n s source cs ds p q e =
+    sym (steps-come-back n s source cs p) ∙ ap (stepsOf n s) e ∙ steps-come-back n s source ds q

@@ -1,16 +1,16 @@
 -- Steps that a destination and a state of every switch give: document 000's lemma 2.1 and theorem 3.1, for every n.
 use mathlib.Core.Path.{_≡_, refl, sym, ap, subst, _∙_}
-use mathlib.Core.List.{List, [], _∷_, _++_}
-use Prim.Native.Nat.{ℕ, zero, suc, _+_, _-_, _*_, _^_, _%_, _≤_, _<_}
+use mathlib.Core.List.{List, [], _∷_}
+use Prim.Native.Nat.{ℕ, zero, suc, _+_, _≤_, _<_}
 use native.Mathlib.Nat.{add-zero, zero-add, mod-eq-of-lt}
 use native.Mathlib.Decide.{ℕ-discrete}
 use native.Mathlib.Numerals.{add-one}
 use native.Mathlib.Omega.{arith}
 use lib.ListN.{length, take, getD}
 use Rattle.fabric.specs.Labels.{size, bit, Agree}
-use Rattle.fabric.specs.Links.{Code, lands}
+use Rattle.fabric.specs.Links.{lands}
 use Rattle.fabric.specs.Walks.{Codes, Steps, walked, switchAt}
-use Rattle.fabric.proofs.Bits.{bit-lt, agree-below}
+use Rattle.fabric.proofs.Bits.{bit-lt}
 use Rattle.fabric.proofs.Links.{straight-toward, nonstraight-toward}
 use Rattle.fabric.proofs.Stages.{walked-lt, switch-next}
 use Rattle.tags.specs.Scheme.{link}

@@ -1,5 +1,5 @@
 -- Laws of the two-bit scheme's table, read forward and backward.
-use mathlib.Core.Path.{_≡_, refl, sym, ap, _∙_}
+use mathlib.Core.Path.{_≡_, refl}
 use Prim.Native.Nat.{ℕ, zero, suc, _-_, _≤_, _<_}
 use native.Mathlib.Omega.{arith}
 use Rattle.fabric.specs.Links.{Code}

@@ -1,9 +1,9 @@
 -- Document 01, 'Numbers handed back', "Entries and order of checks": what tag to steps, steps to tag and the normal form
 -- of a tag answer, and what they leave in the lent memory.
-use Prim.Native.Nat.{ℕ}
 use mathlib.Core.Path.{_≡_}
 use mathlib.Core.Bool.{Bool, false, _||_}
 use mathlib.Core.List.{List, [], _∷_, _++_}
+use Prim.Native.Nat.{ℕ}
 use lib.ListN.{length, take, drop}
 use Rattle.table.specs.Numbers.{numberOf}
 use Rattle.table.specs.Reply.{Reply, refused}

@@ -1,7 +1,7 @@
 -- Document 01, 'Tags and steps': tags, the steps of a tag, and the normal tag of steps.
-use Prim.Native.Nat.{ℕ, zero, suc, _+_, _*_, _^_, _%_, _<_}
 use mathlib.Core.Path.{_≡_}
 use mathlib.Core.List.{List, [], _∷_}
+use Prim.Native.Nat.{ℕ, zero, suc, _+_, _*_, _^_, _%_, _<_}
 use lib.ListN.{getD}
 use Rattle.fabric.specs.Labels.{size, bit}
 use Rattle.fabric.specs.Links.{lands}

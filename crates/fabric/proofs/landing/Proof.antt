@@ -1,7 +1,8 @@
+-- A case for each code; whatever is neither straight nor plus is minus.
 use mathlib.Core.Path.{sym, _∙_}
 use native.Mathlib.Omega.{arith}
-use Rattle.fabric.proofs.Links.{lands-lt, lands-minus}
 use borrow.Author.Needs.{needs}
+use Rattle.fabric.proofs.Links.{lands-lt, lands-minus}
 use Rattle.fabric.proofs.landing.Statement.{statement}
 use Rattle.fabric.proofs.landing.Tie as tie
 

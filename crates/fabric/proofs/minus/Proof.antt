@@ -1,6 +1,7 @@
+-- The difference wraps at 65,536, and N divides 65,536.
 use native.Mathlib.Omega.{arith}
-use Rattle.fabric.proofs.Wrapping.{minus-wraps}
 use borrow.Author.Needs.{needs}
+use Rattle.fabric.proofs.Wrapping.{minus-wraps}
 use Rattle.fabric.proofs.minus.Statement.{statement}
 use Rattle.fabric.proofs.minus.Tie as tie
 

@@ -1,3 +1,4 @@
+-- The test is that of the definition, over the size.
 use borrow.Author.Tests.{leb-false}
 use borrow.Author.Needs.{needs}
 use Rattle.fabric.proofs.outside_labels.Statement.{statement}

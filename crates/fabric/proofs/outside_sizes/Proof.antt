@@ -1,7 +1,7 @@
-use native.Mathlib.Omega.{arith}
+-- The two tests are those of the definition.
 use mathlib.Core.Bool.{true≢false}
+use native.Mathlib.Omega.{arith}
 use borrow.Author.Tests.{lt-ltb, le-ltb, ltb-false}
-use borrow.Author.Needs.{needs}
 use Rattle.fabric.proofs.outside_sizes.Statement.{statement}
 use Rattle.fabric.proofs.outside_sizes.Tie as tie
 

@@ -1,6 +1,7 @@
+-- The sum wraps at 65,536, and N divides 65,536.
 use native.Mathlib.Omega.{arith}
-use Rattle.fabric.proofs.Wrapping.{plus-wraps}
 use borrow.Author.Needs.{needs}
+use Rattle.fabric.proofs.Wrapping.{plus-wraps}
 use Rattle.fabric.proofs.plus.Statement.{statement}
 use Rattle.fabric.proofs.plus.Tie as tie
 

@@ -1,9 +1,10 @@
+-- A one shifted by at most 12 places loses nothing.
 use mathlib.Core.Path.{_∙_}
 use Prim.Native.Nat.{_^_}
 use native.Mathlib.Nat.{one-mul}
 use native.Mathlib.Omega.{arith}
-use lib.Pow.{shl-exact}
 use borrow.Author.Needs.{needs}
+use lib.Pow.{shl-exact}
 use Rattle.fabric.proofs.size.Statement.{statement}
 use Rattle.fabric.proofs.size.Tie as tie
 

@@ -1,7 +1,7 @@
 -- The place stays within the part.
 use Prim.Native.Nat.{_≤_, _-_}
-use lib.ListN.{length}
 use borrow.Author.Needs.{needs}
+use lib.ListN.{length}
 use Rattle.lines.proofs.bytes.Statement.{statement}
 use Rattle.lines.proofs.bytes.Tie as tie
 

@@ -2,11 +2,11 @@
 use mathlib.Core.Path.{ap, _∙_}
 use mathlib.Core.List.{List}
 use Prim.Native.Nat.{ℕ}
+use borrow.Author.Needs.{needs}
 use lib.ListN.{take}
 use lib.Seq.{take-at}
 use Rattle.tags.specs.Tags.{stepsOf, normalTag}
 use Rattle.tags.proofs.Steps.{steps-of-tag}
-use borrow.Author.Needs.{needs}
 use Rattle.tags.proofs.normal.normal_of.Statement.{statement}
 use Rattle.tags.proofs.normal.normal_of.Tie as tie
 

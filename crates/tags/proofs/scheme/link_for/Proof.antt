@@ -1,6 +1,7 @@
+-- A case for each row of the table: straight, plus, minus.
 use mathlib.Core.Path.{sym}
-use Rattle.tags.proofs.Table.{link-straight, link-plus, link-minus}
 use borrow.Author.Needs.{needs}
+use Rattle.tags.proofs.Table.{link-straight, link-plus, link-minus}
 use Rattle.tags.proofs.scheme.link_for.Statement.{statement}
 use Rattle.tags.proofs.scheme.link_for.Tie as tie
 

@@ -1,3 +1,4 @@
+-- The test is that of the definition, over the number of tags.
 use borrow.Author.Tests.{leb-false}
 use borrow.Author.Needs.{needs}
 use Rattle.tags.proofs.scheme.outside_tags.Statement.{statement}

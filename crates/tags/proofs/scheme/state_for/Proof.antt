@@ -1,7 +1,8 @@
+-- A case for each code: straight, plus, minus.
 use mathlib.Core.Path.{sym}
 use native.Mathlib.Omega.{arith}
-use Rattle.tags.proofs.Table.{stateFor-plus, stateFor-minus}
 use borrow.Author.Needs.{needs}
+use Rattle.tags.proofs.Table.{stateFor-plus, stateFor-minus}
 use Rattle.tags.proofs.scheme.state_for.Statement.{statement}
 use Rattle.tags.proofs.scheme.state_for.Tie as tie
 

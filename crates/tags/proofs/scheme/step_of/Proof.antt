@@ -1,3 +1,4 @@
+-- The three bits are those of the definition.
 use borrow.Author.Needs.{needs}
 use Rattle.tags.proofs.scheme.step_of.Statement.{statement}
 use Rattle.tags.proofs.scheme.step_of.Tie as tie

@@ -1,9 +1,10 @@
+-- A one shifted by at most 24 places loses nothing.
 use mathlib.Core.Path.{_∙_}
 use Prim.Native.Nat.{_*_, _^_}
 use native.Mathlib.Nat.{one-mul}
 use native.Mathlib.Omega.{arith}
-use lib.Pow.{shl-exact}
 use borrow.Author.Needs.{needs}
+use lib.Pow.{shl-exact}
 use Rattle.tags.proofs.scheme.tag_count.Statement.{statement}
 use Rattle.tags.proofs.scheme.tag_count.Tie as tie
 

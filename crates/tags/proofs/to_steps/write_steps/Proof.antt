@@ -3,6 +3,7 @@ use mathlib.Core.Path.{_≡_, refl, ap, _∙_}
 use mathlib.Core.List.{List, _++_}
 use Prim.Native.Nat.{ℕ, _-_, _≤_, _<_}
 use native.Mathlib.Omega.{arith}
+use borrow.Author.Needs.{needs}
 use lib.ListN.{length, take, drop, length-set}
 use lib.Seq.{take-all}
 use Rattle.fabric.specs.Labels.{size}
@@ -10,7 +11,6 @@ use Rattle.fabric.specs.Walks.{switchAt, walked}
 use Rattle.tags.specs.Tags.{stepsOf}
 use Rattle.tags.proofs.Steps.{steps-of-tag, step-on}
 use Rattle.tags.proofs.Lent.{front-more}
-use borrow.Author.Needs.{needs}
 use Rattle.tags.proofs.to_steps.write_steps.Statement.{statement}
 use Rattle.tags.proofs.to_steps.write_steps.Tie as tie
 

@@ -1,10 +1,11 @@
-use Rattle.tags.proofs.Reading.{joined-fits}
+-- The states, shifted past the destination, stay below 2^24.
 use mathlib.Core.Path.{ap, _∙_}
 use Prim.Native.Nat.{ℕ, _+_, _^_}
 use native.Mathlib.Nat.{mul-comm}
 use native.Mathlib.Omega.{arith}
-use lib.Pow.{shl-exact}
 use borrow.Author.Needs.{needs}
+use lib.Pow.{shl-exact}
+use Rattle.tags.proofs.Reading.{joined-fits}
 use Rattle.tags.proofs.to_tag.joined.Statement.{statement}
 use Rattle.tags.proofs.to_tag.joined.Tie as tie
 

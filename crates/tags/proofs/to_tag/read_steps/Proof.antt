@@ -1,16 +1,14 @@
-use Prim.Native.Nat.{_+_, _*_, _^_}
-use lib.ListN.{getD}
-use lib.Pow.{pow-mono}
-use Rattle.tags.proofs.Reading.{collects, collected}
 -- The loop holds the switch of column i and the states of the first i steps.
-use mathlib.Core.Path.{_≡_, refl, ap, _∙_}
-use Prim.Native.Nat.{ℕ, _-_, _≤_, _<_}
+use mathlib.Core.Path.{_≡_, refl, _∙_}
+use Prim.Native.Nat.{_+_, _^_, _-_, _≤_, _<_}
 use native.Mathlib.Omega.{arith}
+use borrow.Author.Needs.{needs}
 use lib.ListN.{length, take}
+use lib.Pow.{pow-mono}
 use Rattle.fabric.specs.Labels.{size}
 use Rattle.fabric.specs.Walks.{switchAt, walked}
+use Rattle.tags.proofs.Reading.{collects, collected}
 use Rattle.tags.specs.Tags.{statesOf}
-use borrow.Author.Needs.{needs}
 use Rattle.tags.proofs.to_tag.read_steps.Statement.{statement}
 use Rattle.tags.proofs.to_tag.read_steps.Tie as tie
 

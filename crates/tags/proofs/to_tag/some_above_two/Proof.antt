@@ -3,10 +3,10 @@ use mathlib.Core.Path.{_≡_, ap, _∙_}
 use Prim.Native.Nat.{_-_, _≤_}
 use native.Mathlib.Omega.{arith}
 use borrow.Author.Tests.{lt-ltb, le-ltb}
+use borrow.Author.Needs.{needs}
 use lib.ListN.{take}
 use Rattle.tags.specs.Entries.{someAboveTwo}
 use Rattle.tags.proofs.Lent.{rest, rest-all, rest-more, rest-short, rest-done}
-use borrow.Author.Needs.{needs}
 use Rattle.tags.proofs.to_tag.some_above_two.Statement.{statement}
 use Rattle.tags.proofs.to_tag.some_above_two.Tie as tie
 

@@ -1,6 +1,7 @@
+-- A bit shifted by fewer than 12 places loses nothing.
 use native.Mathlib.Omega.{arith}
-use lib.Pow.{shl-exact}
 use borrow.Author.Needs.{needs}
+use lib.Pow.{shl-exact}
 use Rattle.tags.proofs.to_tag.state_bit.Statement.{statement}
 use Rattle.tags.proofs.to_tag.state_bit.Tie as tie
 
