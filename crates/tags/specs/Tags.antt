@@ -28,7 +28,8 @@ steered n d states (suc left) i j =
     link (bit i j) (bit i d) (states i j)
     ∷ steered n d states left (suc i) (lands n i (link (bit i j) (bit i d) (states i j)) j)
 
--- tag to steps: every switch of stage i has the state that the tag gives stage i
+-- tag to steps: every switch of stage i has the state that the tag gives stage i. `tag-follows` and `follows-tag` say that
+-- these are the n codes, and the only ones, that the table chooses stage by stage.
 abbrev pub stepsOf : ℕ → ℕ → ℕ → List ℕ
 stepsOf n s tag = steered n tag (λ i j. state n tag i) n 0 s
 
