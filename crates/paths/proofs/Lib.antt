@@ -1,0 +1,7 @@
+pub mod Keys
+pub mod Walks
+pub mod Order
+pub mod Pivots
+pub mod Best
+pub mod Sides
+pub mod Frontier

@@ -1,0 +1,123 @@
+-- 01's order of paths: it is the order of keys, and of clear paths no two are first.
+use mathlib.Core.Path.{_≡_, refl, sym, ap, ap₂, subst, _∙_}
+use mathlib.Core.List.{List, [], _∷_}
+use mathlib.Core.Logic.{_⊎_, inl, inr}
+use Prim.Native.Nat.{ℕ, zero, suc, _+_, _-_, _*_, _^_, _<_}
+use native.Mathlib.Decide.{ℕ-discrete, decLt}
+use native.Mathlib.Omega.{arith}
+use lib.ListN.{length, take, drop, getD, length-drop, take-append-drop, List·getD-eq-default}
+use lib.Seq.{length-take-le, drop-cons}
+use Rattle.fabric.specs.Labels.{bit}
+use Rattle.fabric.specs.Links.{lands}
+use Rattle.fabric.specs.Walks.{Path, walked, switchAt}
+use Rattle.tags.specs.Scheme.{link, stateFor}
+use Rattle.tags.proofs.Table.{stateFor-lt}
+use Rattle.tags.proofs.NormalTags.{path-follows}
+use Rattle.paths.specs.Clear.{Rule, ComesBefore, First}
+use Rattle.paths.proofs.Keys.{keyOf, key-on, key-lt}
+
+-- the key of steps, cut at stage k
+key-cut : (n s : ℕ) (cs : List ℕ) (k : ℕ) → k < length cs →
+    keyOf n 0 s cs
+    ≡ keyOf n 0 s (take k cs) * 2 ^ (length cs - k)
+    + (stateFor (bit k (switchAt n s cs k)) (getD cs k 0) * 2 ^ (length cs - suc k) + keyOf n (suc k) (lands n k (getD cs k 0) (switchAt n s cs k)) (drop (suc k) cs))
+unfolding keyOf
+key-cut n s cs k h =
+    let j : ℕ = switchAt n s cs k in
+    let l : length (take k cs) ≡ k = length-take-le k cs (omega arith) in
+    let m : 0 + length (take k cs) ≡ k = omega arith in
+    ap (keyOf n 0 s) (sym (take-append-drop k cs))
+    ∙ key-on n 0 s (take k cs) (drop k cs)
+    ∙ ap₂ (λ (a b : ℕ). keyOf n 0 s (take k cs) * 2 ^ a + keyOf n b j (drop k cs)) (length-drop k cs) m
+    ∙ ap (λ (x : List ℕ). keyOf n 0 s (take k cs) * 2 ^ (length cs - k) + keyOf n k j x) (drop-cons cs k 0 h)
+    ∙ ap (λ (a : ℕ). keyOf n 0 s (take k cs) * 2 ^ (length cs - k) + (stateFor (bit k j) (getD cs k 0) * 2 ^ a + keyOf n (suc k) (lands n k (getD cs k 0) j) (drop (suc k) cs))) (length-drop (suc k) cs)
+
+-- two codes of one switch on ways to d, with one state, are one code
+module _ (n s d : ℕ) (cs ds : List ℕ) (p : Path n s d cs) (q : Path n s d ds) (k : ℕ) (inside : k < n) (together : take k cs ≡ take k ds) where
+  same-switch : switchAt n s cs k ≡ switchAt n s ds k
+  same-switch = ap (walked n 0 s) together
+
+  pub same-state-same-code : stateFor (bit k (switchAt n s cs k)) (getD cs k 0) ≡ stateFor (bit k (switchAt n s ds k)) (getD ds k 0) → getD cs k 0 ≡ getD ds k 0
+  same-state-same-code e =
+      path-follows n s d cs p k inside
+      ∙ ap₂ (λ (j st : ℕ). link (bit k j) (bit k d) st) same-switch e
+      ∙ sym (path-follows n s d ds q k inside)
+
+-- where paths part they are still inside
+inside-stage : (n : ℕ) (cs ds : List ℕ) (k : ℕ) → length cs ≡ n → length ds ≡ n → (getD cs k 0 ≡ getD ds k 0 → ⊥) → k < n
+inside-stage n cs ds k lc ld parted = go (decLt k n)
+  where
+    go : Dec (k < n) → k < n
+    go (yes h) = h
+    go (no h) = absurd (parted (List·getD-eq-default cs 0 (omega arith) ∙ sym (List·getD-eq-default ds 0 (omega arith))))
+
+-- a path that comes before another has the lesser key
+pub earlier-key : (n s d : ℕ) (cs ds : List ℕ) → Path n s d cs → Path n s d ds → ComesBefore n s cs ds → keyOf n 0 s cs < keyOf n 0 s ds
+earlier-key n s d cs ds p q b =
+    let k : ℕ = b .stage in
+    let lc = p .steps .stages in
+    let ld = q .steps .stages in
+    let h = inside-stage n cs ds k lc ld (b .parted) in
+    let x : ℕ = stateFor (bit k (switchAt n s ds k)) (getD ds k 0) in
+    let one : (x ≡ 0 → ⊥) = λ z. b .parted (same-state-same-code n s d cs ds p q k h (b .together) (b .zeroThere ∙ sym z)) in
+    let hx = stateFor-lt (bit k (switchAt n s ds k)) (getD ds k 0) in
+    let m : ℕ = n - suc k in
+    let ec : length cs - suc k ≡ m = omega arith in
+    let ed : length ds - suc k ≡ m = omega arith in
+    let fc : length cs - k ≡ length ds - k = omega arith in
+    let restc = key-lt n (suc k) (lands n k (getD cs k 0) (switchAt n s cs k)) (drop (suc k) cs) in
+    let low : keyOf n (suc k) (lands n k (getD cs k 0) (switchAt n s cs k)) (drop (suc k) cs) < 2 ^ m =
+    subst (λ (y : ℕ). keyOf n (suc k) (lands n k (getD cs k 0) (switchAt n s cs k)) (drop (suc k) cs) < 2 ^ y) (length-drop (suc k) cs ∙ ec) restc in
+    let kc = key-cut n s cs k (omega arith) in
+    let kd = key-cut n s ds k (omega arith) in
+    let a : keyOf n 0 s (take k cs) * 2 ^ (length cs - k) ≡ keyOf n 0 s (take k ds) * 2 ^ (length ds - k) =
+    ap₂ (λ (y : List ℕ) (z : ℕ). keyOf n 0 s y * 2 ^ z) (b .together) fc in
+    let tc : stateFor (bit k (switchAt n s cs k)) (getD cs k 0) * 2 ^ (length cs - suc k) ≡ 0 = ap (λ (y : ℕ). y * 2 ^ (length cs - suc k)) (b .zeroThere) ∙ omega arith in
+    let ones : x ≡ 1 = omega arith in
+    let td : x * 2 ^ (length ds - suc k) ≡ 2 ^ m = ap₂ (λ (y z : ℕ). y * 2 ^ z) ones ed ∙ omega arith in
+    omega arith
+
+-- two lists of one length are the same, or part somewhere
+pub record Parted (cs ds : List ℕ) : Type 0 where
+  pub stage : ℕ
+  pub together : take stage cs ≡ take stage ds
+  pub parted : getD cs stage 0 ≡ getD ds stage 0 → ⊥
+
+same-or-parted : (cs ds : List ℕ) → length cs ≡ length ds → (cs ≡ ds) ⊎ Parted cs ds
+same-or-parted [] [] l = inl refl
+same-or-parted [] (e ∷ ds) l = absurd (omega arith)
+same-or-parted (c ∷ cs) [] l = absurd (omega arith)
+same-or-parted (c ∷ cs) (e ∷ ds) l = go (ℕ-discrete c e) (same-or-parted cs ds (omega arith))
+  where
+    go : Dec (c ≡ e) → (cs ≡ ds) ⊎ Parted cs ds → ((c ∷ cs) ≡ (e ∷ ds)) ⊎ Parted (c ∷ cs) (e ∷ ds)
+    go (yes x) (inl y) = inl (ap₂ (λ (u : ℕ) (v : List ℕ). u ∷ v) x y)
+    go (yes x) (inr y) =
+        inr (record { stage = suc (y .stage); together = ap₂ (λ (u : ℕ) (v : List ℕ). u ∷ v) x (y .together); parted = y .parted })
+    go (no x) y = inr (record { stage = 0; together = refl; parted = x })
+
+-- no two clear paths are first
+pub first-once : (n : ℕ) (stops : Rule) (s d : ℕ) (cs ds : List ℕ) → First n stops s d cs → First n stops s d ds → cs ≡ ds
+first-once n stops s d cs ds p q = go (same-or-parted cs ds (pc .steps .stages ∙ sym (pd .steps .stages)))
+  where
+    pc : Path n s d cs
+    pc = p .clearPath .path
+
+    pd : Path n s d ds
+    pd = q .clearPath .path
+
+    at : (w : Parted cs ds) → (x y : ℕ)
+        → stateFor (bit (w .stage) (switchAt n s cs (w .stage))) (getD cs (w .stage) 0) ≡ x
+        → stateFor (bit (w .stage) (switchAt n s ds (w .stage))) (getD ds (w .stage) 0) ≡ y → x < 2 → y < 2 → ⊥
+    at w zero y ex ey hx hy =
+        q .first cs (p .clearPath) (record { stage = w .stage; together = w .together; parted = w .parted; zeroThere = ex })
+    at w (suc x) zero ex ey hx hy =
+        p .first ds (q .clearPath) (record { stage = w .stage; together = sym (w .together); parted = λ e. w .parted (sym e); zeroThere = ey })
+    at w (suc x) (suc y) ex ey hx hy =
+        let h = inside-stage n cs ds (w .stage) (pc .steps .stages) (pd .steps .stages) (w .parted) in
+        let e : suc x ≡ suc y = omega arith in
+        w .parted (same-state-same-code n s d cs ds pc pd (w .stage) h (w .together) (ex ∙ e ∙ sym ey))
+
+    go : (cs ≡ ds) ⊎ Parted cs ds → cs ≡ ds
+    go (inl e) = e
+    go (inr w) =
+        absurd (at w _ _ refl refl (stateFor-lt (bit (w .stage) (switchAt n s cs (w .stage))) (getD cs (w .stage) 0)) (stateFor-lt (bit (w .stage) (switchAt n s ds (w .stage))) (getD ds (w .stage) 0)))
