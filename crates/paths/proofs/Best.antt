@@ -44,6 +44,7 @@ module _ (n s : ℕ) where
   pub through-best : (stops : Rule) (i j c state : ℕ) (P : List ℕ → Type 0) (p : Place)
       → ((cs : List ℕ) → P cs → (length cs ≡ i) × (walked n 0 s cs ≡ j)) → state ≡ stateFor (bit i j) c
       → Best n s P p → Best n s (Via stops i j c P) (through p (stops i j c) state i)
+  unfolding through
   through-best stops i j c state P p onto es b = go (p .reached) refl (ℕ-discrete (stops i j c) 0)
     where
       keyed : (cs : List ℕ) → P cs → keyOf n 0 s (cs ++ (c ∷ [])) ≡ keyOf n 0 s cs * 2 + state
@@ -77,6 +78,7 @@ module _ (n s : ℕ) where
       go false e z = rw e (nowhere-best (Via stops i j c P) (λ cs v. b .unreached e (v .before) (v .among)))
 
   pub lesser-best : (P Q : List ℕ → Type 0) (p q : Place) → Best n s P p → Best n s Q q → Best n s (λ cs. P cs ⊎ Q cs) (lesser p q)
+  unfolding lesser
   lesser-best P Q p q a b = go (p .reached) refl (q .reached) refl (decLe (p .key) (q .key))
     where
       left : p .reached ≡ true → ((cs : List ℕ) → Q cs → p .key ≤ keyOf n 0 s cs) → Best n s (λ cs. P cs ⊎ Q cs) p

@@ -68,6 +68,7 @@ module _ (n : ℕ) (stops : Rule) (s d : ℕ) (source : s < size n) where
 
   stepped : (i : ℕ) → i < n → (right : Bool) → highRight n s d source i ≡ right → (x : Stops) → Looks n stops s d i right x → (f : Front)
       → Holds i f → Stepped i right right x f
+  unfolding advanced
   stepped i h true e x look f held =
       let hi : ℕ = high n s d i in
       let lo : ℕ = low n s d i in

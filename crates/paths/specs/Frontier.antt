@@ -1,7 +1,7 @@
 -- The router's own bookkeeping, stage by stage. Nobody has to believe it: `advanced-best` ties it to the definitions of
 -- Clear.antt.
 use mathlib.Core.Bool.{Bool, true, false, cond, _&&_}
-use Prim.Native.Nat.{ℕ, zero, suc, _+_, _-_, _*_, _^_}
+use Prim.Native.Nat.{ℕ, zero, suc, _+_, _-_, _*_, _^_, _<_}
 use lib.Dec.{eqb, leb}
 use Rattle.fabric.specs.Labels.{bit}
 use Rattle.fabric.specs.Links.{lands}
@@ -18,14 +18,14 @@ abbrev pub start : Front
 start = record { high = record { reached = true; key = 0; states = 0 }; low = nowhere }
 
 -- through a link of stage i that a number stops, taken in a state
-abbrev pub through : Place → ℕ → ℕ → ℕ → Place
+unfoldable pub through : Place → ℕ → ℕ → ℕ → Place
 through p stop state i =
     cond (p .reached && eqb stop 0)
     (record { reached = true; key = p .key * 2 + state; states = p .states + state * 2 ^ i })
     nowhere
 
 -- of two ways to one switch, the one that comes first
-abbrev pub lesser : Place → Place → Place
+unfoldable pub lesser : Place → Place → Place
 lesser p q = cond (p .reached) (cond (q .reached) (cond (leb (p .key) (q .key)) p q) p) q
 
 -- the high switch of a column: from the source on, straight where its bit is right, and plus where it is not
@@ -38,7 +38,7 @@ abbrev pub low : ℕ → ℕ → ℕ → ℕ → ℕ
 low n s d i = lands n i 2 (high n s d i)
 
 -- one stage on: the switch whose bit is right goes straight, the other one forks, plus up and minus down
-abbrev pub advanced : Bool → ℕ → Stops → ℕ → Front → Front
+unfoldable pub advanced : Bool → ℕ → Stops → ℕ → Front → Front
 advanced highRight t x i f =
     cond highRight
     (record {
@@ -49,3 +49,8 @@ advanced highRight t x i f =
       high = through (f .high) (x .plus) (1 - t) i;
       low = lesser (through (f .low) (x .straight) 0 i) (through (f .high) (x .minus) t i);
     })
+
+-- the states of i stages fit i bits
+pub record Small (i : ℕ) (p : Place) : Type 0 where
+  pub key : p .key < 2 ^ i
+  pub states : p .states < 2 ^ i

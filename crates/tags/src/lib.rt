@@ -9,6 +9,8 @@ pub use scheme::outside_tags;
 pub use scheme::step_of;
 use table::Refusal;
 pub use to_steps::tag_to_steps;
+pub use to_tag::joined;
+pub use to_tag::state_bit;
 pub use to_tag::steps_to_tag;
 
 // What tag to steps answers.

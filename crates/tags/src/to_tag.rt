@@ -10,7 +10,7 @@ ghost use Rattle.tags.specs.Tags.{normalTag};
 ghost use Rattle.tags.specs.Entries.{someAboveTwo, StepsToTag};
 
 // A state as bit i of a number.
-fn state_bit(state: u8, i: u8) -> u32
+pub fn state_bit(state: u8, i: u8) -> u32
     requires { ⌜ (state < 2) × (i < 12) ⌝ }
     ensures { λ r. ⌜ r ≡ state * 2 ^ i ⌝ }
 {
@@ -18,7 +18,7 @@ fn state_bit(state: u8, i: u8) -> u32
 }
 
 // The tag of a destination and a number that holds the states.
-fn joined(n: u8, destination: u16, states: u32) -> u32
+pub fn joined(n: u8, destination: u16, states: u32) -> u32
     requires { ⌜ (n ≤ 12) × (destination < size n) × (states < size n) ⌝ }
     ensures { λ r. ⌜ r ≡ destination + size n * states ⌝ }
 {
