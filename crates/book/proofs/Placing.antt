@@ -1,0 +1,140 @@
+-- The place of a number among standing notices: inserting there is `insert`, removing there is `without`, and a number stands
+-- exactly where the notice at its place has it.
+use mathlib.Core.Path.{_≡_, refl, sym, ap, ap₂, _∙_}
+use mathlib.Core.Bool.{Bool, true, false, cond, true≢false, or-false}
+use mathlib.Core.List.{List, [], _∷_, _++_}
+use Prim.Native.Nat.{ℕ, suc, _+_, _-_, _≤_, _<_, zero-le, suc-le-suc}
+use native.Mathlib.Decide.{ℕ-discrete, decLe}
+use native.Mathlib.Omega.{arith}
+use borrow.Author.Tests.{eq-eqb, ne-eqb, le-leb, lt-leb, lt-ltb, le-ltb}
+use lib.Dec.{eqb, leb}
+use lib.ListN.{length, drop, getD, set, replicate, length-append, length-take, length-drop, take-append-drop}
+use lib.Seq.{paste, length-take-le, getD-take}
+use Rattle.book.specs.declared.Notice.{Notice}
+use Rattle.book.specs.declared.Book.{Book}
+use Rattle.book.specs.Standing.{filler, standing, bookOf, stands, insert, without, Filed, Sound}
+use Rattle.book.specs.Places.{placeOf, insertAt, removeAt}
+use Rattle.book.proofs.Arrays.{opens-gap, closes-gap}
+use Rattle.book.proofs.Filings.{above-stands-not}
+
+module _ (k : ℕ) where
+  pub place-le : (l : List Notice) → placeOf k l ≤ length l
+  unfolding placeOf
+  place-le [] = zero-le
+  place-le (y ∷ ys) = least (leb k (y .number)) (placeOf k ys) (length ys) (place-le ys)
+    where
+      least : (b : Bool) (m n : ℕ) → m ≤ n → cond b 0 (suc m) ≤ suc n
+      least true m n h = zero-le
+      least false m n h = suc-le-suc h
+
+  pub place-past : (l : List Notice) → length l ≤ placeOf k l → stands k l ≡ false
+  unfolding placeOf stands
+  place-past [] h = refl
+  place-past (y ∷ ys) h = go (decLe k (y .number)) (place-past ys)
+    where
+      go : Dec (k ≤ y .number) → (length ys ≤ placeOf k ys → stands k ys ≡ false) → stands k (y ∷ ys) ≡ false
+      go (yes t) ih = let g : suc (length ys) ≤ 0 = rw (le-leb k (y .number) t) at h in absurd (omega arith)
+      go (no t) ih =
+          let g : suc (length ys) ≤ suc (placeOf k ys) = rw (lt-leb k (y .number) (omega arith)) at h in
+          rw (ne-eqb (y .number) k (λ e. t (omega arith))) (ih (omega arith))
+
+  module _ (n : ℕ) (d : Notice) where
+    pub place-stands : (m : ℕ) (l : List Notice) → Filed n m l → placeOf k l < length l → stands k l ≡ eqb (getD l (placeOf k l) d .number) k
+    unfolding placeOf stands Filed
+    place-stands m [] f h = absurd (omega arith)
+    place-stands m (y ∷ ys) f h = go (decLe k (y .number)) (place-stands (y .number) ys (f .2))
+      where
+        go : Dec (k ≤ y .number) → (placeOf k ys < length ys → stands k ys ≡ eqb (getD ys (placeOf k ys) d .number) k)
+            → stands k (y ∷ ys) ≡ eqb (getD (y ∷ ys) (placeOf k (y ∷ ys)) d .number) k
+        go (yes t) ih = rw (le-leb k (y .number) t, above-stands-not n (y .number) k ys (f .2) t) (or-false (eqb (y .number) k))
+        go (no t) ih =
+            let b = lt-leb k (y .number) (omega arith) in
+            let g : suc (placeOf k ys) < suc (length ys) = rw b at h in
+            rw (b, ne-eqb (y .number) k (λ e. t (omega arith))) (ih (omega arith))
+
+  pub standing-place : (l : List Notice) → stands k l ≡ true → placeOf k l < length l
+  standing-place l s = go (decLe (length l) (placeOf k l))
+    where
+      go : Dec (length l ≤ placeOf k l) → placeOf k l < length l
+      go (yes h) = absurd (true≢false (sym s ∙ place-past l h))
+      go (no h) = omega arith
+
+  pub without-at : (n m : ℕ) (l : List Notice) → Filed n m l → stands k l ≡ true → without k l ≡ removeAt (placeOf k l) l
+  unfolding placeOf stands without Filed
+  without-at n m [] f s = refl
+  without-at n m (y ∷ ys) f s = go (ℕ-discrete (y .number) k) (decLe k (y .number)) (without-at n (y .number) ys (f .2))
+    where
+      go : Dec (y .number ≡ k) → Dec (k ≤ y .number) → (stands k ys ≡ true → without k ys ≡ removeAt (placeOf k ys) ys)
+          → without k (y ∷ ys) ≡ removeAt (placeOf k (y ∷ ys)) (y ∷ ys)
+      go (yes e) t ih = rw (eq-eqb (y .number) k e, le-leb k (y .number) (omega arith))
+      go (no e) (yes t) ih =
+          let z : stands k ys ≡ true = rw (ne-eqb (y .number) k e) at s in
+          absurd (true≢false (sym z ∙ above-stands-not n (y .number) k ys (f .2) t))
+      go (no e) (no t) ih =
+          let z : stands k ys ≡ true = rw (ne-eqb (y .number) k e) at s in
+          rw (ne-eqb (y .number) k e, lt-leb k (y .number) (omega arith)) (ap (λ (l : List Notice). y ∷ l) (ih z))
+
+pub insert-at : (x : Notice) (l : List Notice) → insert x l ≡ insertAt (placeOf (x .number) l) x l
+unfolding placeOf insert
+insert-at x [] = refl
+insert-at x (y ∷ ys) = go (decLe (x .number) (y .number)) (insert-at x ys)
+  where
+    go : Dec (x .number ≤ y .number) → insert x ys ≡ insertAt (placeOf (x .number) ys) x ys → insert x (y ∷ ys) ≡ insertAt (placeOf (x .number) (y ∷ ys)) x (y ∷ ys)
+    go (yes t) ih = rw (le-leb (x .number) (y .number) t, le-ltb (y .number) (x .number) t)
+    go (no t) ih = rw (lt-leb (x .number) (y .number) (omega arith), lt-ltb (y .number) (x .number) (omega arith)) (ap (λ (l : List Notice). y ∷ l) ih)
+
+-- a book from its parts
+abbrev pub made : ℕ → ℕ → List Notice → Book
+made n count notices = record { n = n; count = count; notices = notices }
+
+module _ (b : Book) (sound : Sound b) (full : length (b .notices) ≡ 48) where
+  pub length-standing : length (standing b) ≡ b .count
+  length-standing = let h = sound .fits in length-take-le (b .count) (b .notices) (omega arith)
+
+  pub split : b .notices ≡ standing b ++ replicate (48 - b .count) filler
+  split = sym (take-append-drop (b .count) (b .notices)) ∙ ap (λ (r : List Notice). standing b ++ r) (sound .rest)
+
+  pub book-inserts : (x : Notice) (p : ℕ) → p ≡ placeOf (x .number) (standing b) → b .count < 48
+      → made (b .n) (b .count + 1) (set (paste (b .notices) (p + 1) (drop p (b .notices)) (b .count - p)) p x) ≡ bookOf (b .n) (insert x (standing b))
+  book-inserts x p at h =
+      let s : List Notice = standing b in
+      let r : List Notice = replicate (47 - b .count) filler in
+      let l : length s ≡ b .count = length-standing in
+      let q = place-le (x .number) s in
+      let e : b .notices ≡ s ++ filler ∷ r = split ∙ ap (λ (m : ℕ). s ++ replicate m filler) {x = 48 - b .count} {y = suc (47 - b .count)} (omega arith) in
+      let i : insert x s ≡ insertAt p x s = insert-at x s ∙ ap (λ (m : ℕ). insertAt m x s) (sym at) in
+      let c : length (insert x s) ≡ b .count + 1 = ap length i ∙ simp (length-append, length-take, length-drop) (omega arith) in
+      let t : set (paste (b .notices) (p + 1) (drop p (b .notices)) (b .count - p)) p x ≡ insert x s ++ r =
+      ap₂ (λ (ns : List Notice) (m : ℕ). set (paste ns (p + 1) (drop p ns) (m - p)) p x) e (sym l)
+      ∙ opens-gap s filler r x p (omega arith)
+      ∙ ap (λ (k : List Notice). k ++ r) (sym i) in
+      ap₂ (made (b .n)) (sym c) (t ∙ ap (λ (m : ℕ). insert x s ++ replicate m filler) {x = 47 - b .count} {y = 48 - length (insert x s)} (omega arith))
+
+  pub book-removes : (k p : ℕ) → p ≡ placeOf k (standing b) → stands k (standing b) ≡ true
+      → made (b .n) (b .count - 1) (set (paste (b .notices) p (drop (p + 1) (b .notices)) (b .count - p - 1)) (b .count - 1) filler)
+      ≡ bookOf (b .n) (without k (standing b))
+  book-removes k p at h =
+      let s : List Notice = standing b in
+      let r : List Notice = replicate (48 - b .count) filler in
+      let f = sound .fits in
+      let l : length s ≡ b .count = length-standing in
+      let q = standing-place k s h in
+      let i : without k s ≡ removeAt p s = without-at k (b .n) 0 s (sound .filed) h ∙ ap (λ (m : ℕ). removeAt m s) (sym at) in
+      let c : length (without k s) ≡ b .count - 1 = ap length i ∙ simp (length-append, length-take, length-drop) (omega arith) in
+      let t : set (paste (b .notices) p (drop (p + 1) (b .notices)) (b .count - p - 1)) (b .count - 1) filler ≡ without k s ++ filler ∷ r =
+      ap₂ (λ (ns : List Notice) (m : ℕ). set (paste ns p (drop (p + 1) ns) (m - p - 1)) (m - 1) filler) split (sym l)
+      ∙ closes-gap s r filler p (omega arith)
+      ∙ ap (λ (z : List Notice). z ++ filler ∷ r) (sym i) in
+      ap₂ (made (b .n)) (sym c) (t ∙ ap (λ (m : ℕ). without k s ++ replicate m filler) {x = suc (48 - b .count)} {y = 48 - length (without k s)} (omega arith))
+
+  -- the tests of `stands` at the place
+  pub stands-here : (k p : ℕ) → p ≡ placeOf k (standing b) → p < b .count → eqb (getD (b .notices) p filler .number) k ≡ stands k (standing b)
+  stands-here k p at h =
+      let l = length-standing in
+      let d : Notice = filler in
+      sym (place-stands k (b .n) d 0 (standing b) (sound .filed) (omega arith)
+      ∙ ap (λ (m : ℕ). eqb (getD (standing b) m d .number) k) (sym at)
+      ∙ ap (λ (y : Notice). eqb (y .number) k) (getD-take (b .count) (b .notices) p d h))
+
+  pub stands-nowhere : (k p : ℕ) → p ≡ placeOf k (standing b) → b .count ≤ p → false ≡ stands k (standing b)
+  stands-nowhere k p at h = let l = length-standing in sym (place-past k (standing b) (omega arith))

@@ -1,0 +1,173 @@
+-- Demand 3 for the book. After any run of filings and withdrawings from a newly opened book, refused ones among them, exactly
+-- those notices stand that were accepted and not withdrawn since; and the book is that into which only they were filed.
+use mathlib.Core.Path.{_≡_, refl, sym, ap, subst, _∙_}
+use mathlib.Core.Bool.{Bool, true, false, cond}
+use mathlib.Core.List.{List, [], _∷_, _++_, map, List·Memᴰ, List·Memᴰ·head, List·Memᴰ·not-nil}
+use mathlib.Core.Logic.{_⊎_, inl, inr, ⊎-elim, _↔_}
+use Prim.Native.Nat.{ℕ, _<_}
+use native.Mathlib.Omega.{arith}
+use native.Mathlib.Decide.{ℕ-discrete}
+use borrow.Author.Tests.{ne-eqb, lt-leb, le-ltb}
+use lib.Dec.{eqb, leb}
+use Rattle.table.specs.Reply.{Reply, refused}
+use Rattle.table.specs.Checks.{Passed.none, Passed.passes}
+use Rattle.table.proofs.Checks.{passed-accepts}
+use Rattle.fabric.specs.Labels.{size, outsideSizes}
+use Rattle.book.specs.declared.Notice.{Notice}
+use Rattle.book.specs.declared.Book.{Book}
+use Rattle.book.specs.declared.Link.{Link}
+use Rattle.book.specs.Targets.{names}
+use Rattle.book.specs.Standing.{standing, bookOf, Stopped, stopper}
+use Rattle.book.specs.Entries.{opened, linkChecks, linkSays, Tests}
+use Rattle.book.specs.Runs.{Change, after, Accepted, run, AllAccepted, NotWithdrawn, StandsSince, Distinct}
+use Rattle.book.proofs.Filings.{neither-of}
+use Rattle.book.proofs.Changes.{Good, good-after, filed-stands, stands-on, stood-or-filed}
+use Rattle.book.proofs.Reach.{good-run, good-sound, opened-good, opened-is, any-order}
+use Rattle.book.proofs.Stoppers.{stopper-some}
+use Rattle.book.proofs.Once.{link-tells}
+
+run-on : (before later : List Change) (b : Book) → run (before ++ later) b ≡ run later (run before b)
+unfolding run
+run-on [] later b = refl
+run-on (a ∷ rest) later b = run-on rest later (after a b)
+
+module _ (n : ℕ) (x : Notice) where
+  stays : (changes : List Change) (b : Book) → Good n b → List·Memᴰ x (standing b) → NotWithdrawn (x .number) changes b → List·Memᴰ x (standing (run changes b))
+  unfolding run NotWithdrawn
+  stays [] b g m w = m
+  stays (a ∷ rest) b g m w = stays rest (after a b) (good-after n b g a) (stands-on n b g x a m (w .0)) (w .1)
+
+  since-stands : (changes : List Change) (b : Book) → Good n b → StandsSince b changes x → List·Memᴰ x (standing (run changes b))
+  unfolding run
+  since-stands changes b g s =
+      let c : Book = run (s .before) b in
+      let h : Good n c = good-run n (s .before) b g in
+      let e : run changes b ≡ run (s .later) (after (Change.file x) c) = ap (λ (l : List Change). run l b) (s .order) ∙ run-on (s .before) (Change.file x ∷ s .later) b in
+      rw e (stays (s .later) (after (Change.file x) c) (good-after n c h (Change.file x)) (filed-stands n c h x (s .accepted)) (s .kept))
+
+  stood-or-since : (changes : List Change) (b : Book) → Good n b → List·Memᴰ x (standing (run changes b))
+      → (List·Memᴰ x (standing b) × NotWithdrawn (x .number) changes b) ⊎ StandsSince b changes x
+  unfolding run NotWithdrawn
+  stood-or-since [] b g m = inl (m, tt)
+  stood-or-since (a ∷ rest) b g m =
+      ⊎-elim
+      (λ v. ⊎-elim (λ u. inl (u .0, (u .1, v .1))) (λ u. inr (here (u .0) (u .1) (v .1))) (stood-or-filed n b g x a (v .0)))
+      (λ r.
+      inr
+      (record {
+        before = a ∷ r .before;
+        later = r .later;
+        order = ap (λ (l : List Change). a ∷ l) (r .order);
+        accepted = r .accepted;
+        kept = r .kept;
+      }))
+      (stood-or-since rest (after a b) (good-after n b g a) m)
+    where
+      here : a ≡ Change.file x → Accepted a b → NotWithdrawn (x .number) rest (after a b) → StandsSince b (a ∷ rest) x
+      here e acc w =
+          record {
+            before = [];
+            later = rest;
+            order = ap (λ (d : Change). d ∷ rest) e;
+            accepted = subst (λ (d : Change). Accepted d b) e acc;
+            kept = subst (λ (d : Change). NotWithdrawn (x .number) rest (after d b)) e w;
+          }
+
+-- the newly opened book, of size n or, where n is refused, of size 0
+newly-opened : (n : ℕ) → (m : ℕ) × (opened n ≡ bookOf m [])
+newly-opened n = go (outsideSizes n) refl
+  where
+    go : (b : Bool) → outsideSizes n ≡ b → (m : ℕ) × (opened n ≡ bookOf m [])
+    go true e = (0, rw e)
+    go false e = (n, rw e)
+
+opened-empty : (n : ℕ) (x : Notice) → List·Memᴰ x (standing (opened n)) → ⊥
+opened-empty n x h = let o = newly-opened n in List·Memᴰ·not-nil (rw (o .1) at h)
+
+-- Demand 3, first half: what stands is what was accepted and not withdrawn since, for any size
+pub stands-exactly : (n : ℕ) (changes : List Change) (x : Notice) → List·Memᴰ x (standing (run changes (opened n))) ↔ StandsSince (opened n) changes x
+stands-exactly n changes x =
+    let o = newly-opened n in
+    let g : Good (o .0) (opened n) = rw (o .1) (opened-good (o .0)) in (
+      (λ m. ⊎-elim (λ w. absurd (opened-empty n x (w .0))) (λ r. r) (stood-or-since (o .0) x changes (opened n) g m)),
+      (λ s. since-stands (o .0) x changes (opened n) g s),
+    )
+
+-- and so it is with what the link test answers
+module _ (n : ℕ) (legal : outsideSizes n ≡ false) (changes : List Change) (i j c : ℕ) (stage : i < n) (label : j < size n) (code : c < 3) (r : Link) where
+  -- some notice names the link that was accepted and not withdrawn since
+  abbrev pub NamedSince : Type 0
+  NamedSince = (x : Notice) × StandsSince (opened n) changes x × (names n (x .target) i j c ≡ true)
+
+  abbrev pub end : Book
+  end = run changes (opened n)
+
+  end-good : Good n end
+  end-good = good-run n changes (opened n) (rw (opened-is n legal) (opened-good n))
+
+  same-size : end .n ≡ n
+  same-size = ap (λ (b : Book). b .n) (end-good .whole)
+
+  test-says : Tests end i j c r → linkSays r ≡ Reply.accepted (cond (eqb (stopper (end .n) (standing end) i j c) 0) 0 1 ∷ [])
+  test-says t =
+      t .says
+      ∙ passed-accepts refused _ (linkChecks end i j c)
+      (passes (good-sound n end legal end-good)
+      (passes (neither-of _ _ (ap (λ (k : ℕ). leb k i) same-size ∙ lt-leb n i stage) (ap (λ (k : ℕ). leb (size k) j) same-size ∙ lt-leb (size n) j label))
+      (passes (le-ltb 2 c (omega arith)) none)))
+
+  named : Stopped n (standing end) i j c → NamedSince
+  named w = (w .0, stands-exactly n changes (w .0) .0 (w .1), w .2)
+
+  stopped : NamedSince → Stopped n (standing end) i j c
+  stopped w = (w .0, stands-exactly n changes (w .0) .1 (w .1), w .2)
+
+  by-stopper : Tests end i j c r → Dec (stopper n (standing end) i j c ≡ 0) → ((r ≡ Link.Clear) × (NamedSince → ⊥)) ⊎ ((r ≡ Link.Stopped) × NamedSince)
+  by-stopper t (yes e) =
+      inl (
+        link-tells r Link.Clear (test-says t ∙ ap (λ (k : ℕ). Reply.accepted (cond (eqb k 0) 0 1 ∷ [])) (ap (λ (k : ℕ). stopper k (standing end) i j c) same-size ∙ e)),
+        λ w. stopper-some n i j c (standing end) (end-good .filed) .1 (stopped w) e,
+      )
+  by-stopper t (no e) =
+      inr (
+        link-tells r Link.Stopped
+            (test-says t ∙ ap (λ b. Reply.accepted (cond b 0 1 ∷ [])) (ne-eqb (stopper (end .n) (standing end) i j c) 0 (λ q. e (ap (λ (k : ℕ). stopper k (standing end) i j c) (sym same-size) ∙ q)))),
+        named (stopper-some n i j c (standing end) (end-good .filed) .0 e),
+      )
+
+  -- "link stopped or not": stopped where some notice names the link that was accepted and not withdrawn since, clear otherwise
+  pub link-exactly : Tests end i j c r → ((r ≡ Link.Clear) × (NamedSince → ⊥)) ⊎ ((r ≡ Link.Stopped) × NamedSince)
+  link-exactly t = by-stopper t (ℕ-discrete (stopper n (standing end) i j c) 0)
+
+-- every change of a book of size 0 is refused
+refused-size : (changes : List Change) → run changes (bookOf 0 []) ≡ bookOf 0 []
+unfolding run
+refused-size [] = refl
+refused-size (Change.file x ∷ rest) = refused-size rest
+refused-size (Change.withdraw k ∷ rest) = refused-size rest
+
+-- Demand 3, second half: the book is that of a new book of that size into which only those notices were filed, in any order.
+-- The two are equal, so no entry tells them apart, and each of those filings is accepted.
+pub same-book : (n : ℕ) (changes : List Change) (l : List Notice) → Distinct l → ((x : Notice) → List·Memᴰ x l ↔ StandsSince (opened n) changes x)
+    → (run (map Change.file l) (opened n) ≡ run changes (opened n)) × AllAccepted (map Change.file l) (opened n)
+unfolding run AllAccepted
+same-book n changes l d these = go (outsideSizes n) refl
+  where
+    within : (x : Notice) → List·Memᴰ x l → List·Memᴰ x (standing (run changes (opened n)))
+    within x h = stands-exactly n changes x .1 (these x .0 h)
+
+    none : (k : List Notice) → ((x : Notice) → List·Memᴰ x k → ⊥) → k ≡ []
+    none [] h = refl
+    none (y ∷ ys) h = absurd (h y (List·Memᴰ·head refl))
+
+    go : (b : Bool) → outsideSizes n ≡ b → (run (map Change.file l) (opened n) ≡ run changes (opened n)) × AllAccepted (map Change.file l) (opened n)
+    go true e =
+        let o : opened n ≡ bookOf 0 [] = rw e in
+        let f : run changes (opened n) ≡ bookOf 0 [] = ap (run changes) o ∙ refused-size changes in
+        let z : l ≡ [] = none l (λ x h. List·Memᴰ·not-nil (rw f at (within x h))) in
+        rw z (o ∙ sym f, tt)
+    go false e =
+        let o = opened-is n e in
+        let g : Good n (run changes (opened n)) = good-run n changes (opened n) (rw o (opened-good n)) in
+        let w = any-order n e (standing (run changes (opened n))) (g .filed) (g .fits) l d within (λ x h. these x .1 (stands-exactly n changes x .0 h)) in
+        (ap (run (map Change.file l)) o ∙ w .0 ∙ sym (g .whole), rw o (w .1))

@@ -1,0 +1,99 @@
+-- Document 01, 'Numbers handed back': the entries over a book, their order of checks, and what each hands back.
+use mathlib.Core.Path.{_≡_}
+use mathlib.Core.Bool.{cond, not, _||_}
+use mathlib.Core.List.{List, [], _∷_, _++_}
+use Prim.Native.Nat.{ℕ}
+use lib.Dec.{eqb}
+use lib.ListN.{length, drop}
+use Rattle.table.specs.Numbers.{numberOf}
+use Rattle.table.specs.Reply.{Reply, refused}
+use Rattle.table.specs.Checks.{Check, _when_, _below_, _notBelow_, checked}
+use Rattle.fabric.specs.Labels.{size, outsideSizes}
+use Rattle.book.specs.declared.Notice.{Notice}
+use Rattle.book.specs.declared.Book.{Book}
+use Rattle.book.specs.declared.Kept.{Kept}
+use Rattle.book.specs.declared.Answer.{Answer}
+use Rattle.book.specs.declared.Link.{Link}
+use Rattle.book.specs.declared.Listing.{Listing}
+use Rattle.book.specs.Targets.{outsideFabric, badField, tooWide}
+use Rattle.book.specs.Standing.{standing, bookOf, stands, insert, without, unsound, stopper}
+use Rattle.book.specs.Layout.{rows}
+
+-- what an answer to open, file and withdraw says
+abbrev pub answerSays : Answer → Reply
+answerSays Answer.Done = Reply.accepted []
+answerSays (Answer.Refused why) = refused (numberOf why)
+
+-- what an answer to the link test says: 0 clear, 1 stopped
+abbrev pub linkSays : Link → Reply
+linkSays Link.Clear = Reply.accepted (0 ∷ [])
+linkSays Link.Stopped = Reply.accepted (1 ∷ [])
+linkSays (Link.Refused why) = refused (numberOf why)
+
+-- what an answer to the listing says
+abbrev pub listingSays : Listing → Reply
+listingSays (Listing.Listed count) = Reply.accepted (count ∷ [])
+listingSays (Listing.Refused why) = refused (numberOf why)
+
+-- "Each hands the book back with its answer." The checks decide both: where one refuses, the book is one that is known
+-- beforehand ("a change that was refused hands the book back as given"), otherwise the book that the change makes.
+pub record HandsBack (checks : List Check) (given made : Book) (r : Kept) : Type 0 where
+  pub says : answerSays (r .answer) ≡ checked checks refused (Reply.accepted [])
+  pub leaves : r .book ≡ checked checks (λ k. given) made
+
+-- "open (n): 1, handing back a book of size 0 with no notices, which every entry over a book answers with 16; otherwise an
+-- empty book of size n."
+abbrev pub openChecks : ℕ → List Check
+openChecks n = (1 when outsideSizes n) ∷ []
+
+abbrev pub opened : ℕ → Book
+opened n = checked (openChecks n) (λ k. bookOf 0 []) (bookOf n [])
+
+abbrev pub Opens : ℕ → Kept → Type 0
+Opens n r = HandsBack (openChecks n) (bookOf 0 []) (bookOf n []) r
+
+-- "file: 16, 3, 4, 5, 6, 7, 8."
+abbrev pub fileChecks : Book → Notice → List Check
+fileChecks b x =
+    (16 when unsound b)
+    ∷ (3 when eqb (x .number) 0)
+    ∷ (4 when outsideFabric (b .n) (x .target))
+    ∷ (5 when badField (b .n) (x .target))
+    ∷ (6 when tooWide (x .target))
+    ∷ (7 when stands (x .number) (standing b))
+    ∷ (8 when length (standing b) notBelow 48)
+    ∷ []
+
+-- "withdraw: 16, 3, 9."
+abbrev pub withdrawChecks : Book → ℕ → List Check
+withdrawChecks b k = (16 when unsound b) ∷ (3 when eqb k 0) ∷ (9 when not (stands k (standing b))) ∷ []
+
+-- the book that an accepted filing makes, and an accepted withdrawing
+abbrev pub filed : Book → Notice → Book
+filed b x = bookOf (b .n) (insert x (standing b))
+
+abbrev pub withdrawn : Book → ℕ → Book
+withdrawn b k = bookOf (b .n) (without k (standing b))
+
+abbrev pub Files : Book → Notice → Kept → Type 0
+Files b x r = HandsBack (fileChecks b x) b (filed b x) r
+
+abbrev pub Withdraws : Book → ℕ → Kept → Type 0
+Withdraws b k r = HandsBack (withdrawChecks b k) b (withdrawn b k) r
+
+-- "link stopped or not: 16, 4, 12."
+abbrev pub linkChecks : Book → ℕ → ℕ → ℕ → List Check
+linkChecks b i j c = (16 when unsound b) ∷ (4 when (i notBelow b .n || j notBelow size (b .n))) ∷ (12 when 2 below c) ∷ []
+
+pub record Tests (b : Book) (i j c : ℕ) (r : Link) : Type 0 where
+  pub says : linkSays r ≡ checked (linkChecks b i j c) refused (Reply.accepted (cond (eqb (stopper (b .n) (standing b) i j c) 0) 0 1 ∷ []))
+
+-- "listing: 16, 13."
+abbrev pub listingChecks : Book → List ℕ → List Check
+listingChecks b memory = (16 when unsound b) ∷ (13 when length memory below length (rows (standing b))) ∷ []
+
+-- "Standing notices by rising number, ten bytes each as filing actions, at the front; the rest stays. It answers how many
+-- there are." `Filed` of a book that passes says that they stand by rising number.
+pub record Lists (b : Book) (before after : List ℕ) (r : Listing) : Type 0 where
+  pub says : listingSays r ≡ checked (listingChecks b before) refused (Reply.accepted (length (standing b) ∷ []))
+  pub leaves : after ≡ checked (listingChecks b before) (λ k. before) (rows (standing b) ++ drop (length (rows (standing b))) before)

@@ -1,0 +1,67 @@
+-- Document 01, 'Notices' and 'How much the promises must say': runs of filings and withdrawals from an opened book.
+use mathlib.Core.Path.{_≡_}
+use mathlib.Core.List.{List, [], _∷_, _++_, List·Memᴰ}
+use Prim.Native.Nat.{ℕ}
+use Rattle.table.specs.Reply.{Reply, refused}
+use Rattle.table.specs.Checks.{Check, checked}
+use Rattle.book.specs.declared.Notice.{Notice}
+use Rattle.book.specs.declared.Book.{Book}
+use Rattle.book.specs.Entries.{openChecks, opened, fileChecks, withdrawChecks, filed, withdrawn}
+
+-- what the desk does to a book, whatever the book answers
+pub data Change : Type 0 where
+  file : Notice → Change
+  withdraw : ℕ → Change
+
+-- the checks of a change, what it answers, and the book that it leaves: those of `Files` and `Withdraws`
+abbrev pub changeChecks : Change → Book → List Check
+changeChecks (Change.file x) b = fileChecks b x
+changeChecks (Change.withdraw k) b = withdrawChecks b k
+
+abbrev pub changed : Change → Book → Book
+changed (Change.file x) b = filed b x
+changed (Change.withdraw k) b = withdrawn b k
+
+abbrev pub answer : Change → Book → Reply
+answer a b = checked (changeChecks a b) refused (Reply.accepted [])
+
+abbrev pub after : Change → Book → Book
+after a b = checked (changeChecks a b) (λ k. b) (changed a b)
+
+abbrev pub Accepted : Change → Book → Type 0
+Accepted a b = answer a b ≡ Reply.accepted []
+
+-- the book after one change and then the others
+unfoldable pub run : List Change → Book → Book
+run [] b = b
+run (a ∷ rest) b = run rest (after a b)
+
+unfoldable pub AllAccepted : List Change → Book → Type 0
+AllAccepted [] b = Unit
+AllAccepted (a ∷ rest) b = Accepted a b × AllAccepted rest (after a b)
+
+-- a book that an accepted opening and accepted filings and withdrawings produce
+pub record Reachable (b : Book) : Type 0 where
+  pub n : ℕ
+  pub opens : checked (openChecks n) refused (Reply.accepted []) ≡ Reply.accepted []
+  pub changes : List Change
+  pub accepts : AllAccepted changes (opened n)
+  pub makes : run changes (opened n) ≡ b
+
+-- no change of the list, made in its turn from this book on, is an accepted withdrawal of number k
+unfoldable pub NotWithdrawn : ℕ → List Change → Book → Type 0
+NotWithdrawn k [] b = Unit
+NotWithdrawn k (a ∷ rest) b = (a ≡ Change.withdraw k → Accepted a b → ⊥) × NotWithdrawn k rest (after a b)
+
+-- in a run from this book on the notice was accepted, and it was not withdrawn since
+pub record StandsSince (b : Book) (changes : List Change) (x : Notice) : Type 0 where
+  pub before : List Change
+  pub later : List Change
+  pub order : changes ≡ before ++ Change.file x ∷ later
+  pub accepted : Accepted (Change.file x) (run before b)
+  pub kept : NotWithdrawn (x .number) later (after (Change.file x) (run before b))
+
+-- no notice stands twice in the list
+unfoldable pub Distinct : List Notice → Type 0
+Distinct [] = Unit
+Distinct (x ∷ xs) = (List·Memᴰ x xs → ⊥) × Distinct xs

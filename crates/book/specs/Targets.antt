@@ -1,0 +1,61 @@
+-- Document 01, 'Notices' and 'Numbers handed back': which links a target names, and when filing refuses it.
+use mathlib.Core.Bool.{Bool, false, cond, not, _&&_, _||_}
+use Prim.Native.Nat.{ℕ, zero, suc, _+_}
+use lib.Dec.{eqb}
+use lib.Bits.{bitAnd}
+use lib.Count.{ones}
+use Rattle.table.specs.Checks.{_below_, _notBelow_}
+use Rattle.fabric.specs.Labels.{size, bit}
+use Rattle.fabric.specs.Links.{lands}
+use Rattle.book.specs.declared.Target.{Target}
+use Rattle.book.specs.declared.Target.the-variants.{Links, Switch, Pattern}
+
+-- "a set (straight 1, plus 2, minus 4, added; 1 to 7)": code c is in the set where the set's bit c is one
+abbrev pub setHas : ℕ → ℕ → Bool
+setHas set c = eqb (bit c set) 1
+
+-- Whether a target names the link of code c that leaves switch j at stage i of a fabric of n stages.
+-- Links: "stage 0 to n-1, switch, and a set".
+-- Switch: "It stops the switch's input links", those that land on it from the stage before its column. `switch-names-inputs`
+-- says that they are 01's three, and `column-0-names-none` that column 0 has none.
+-- Pattern: "It names every switch whose bits under the mask equal the value." `pattern-names-exactly` says it bit by bit.
+abbrev pub names : ℕ → Target → ℕ → ℕ → ℕ → Bool
+names n (Links stage switch set) i j c = eqb i stage && eqb j switch && setHas set c
+names n (Switch column switch) i j c = eqb (i + 1) column && eqb (lands n i c j) switch
+names n (Pattern stage value mask set) i j c = eqb i stage && eqb (bitAnd j mask) value && setHas set c
+
+-- 4: "stage, column or switch outside the fabric (a pattern's value is judged by 5 alone)"
+abbrev pub outsideFabric : ℕ → Target → Bool
+outsideFabric n (Links stage switch set) = stage notBelow n || switch notBelow size n
+outsideFabric n (Switch column switch) = n below column || switch notBelow size n
+outsideFabric n (Pattern stage value mask set) = stage notBelow n
+
+-- "set outside 1 to 7"
+abbrev pub badSet : ℕ → Bool
+badSet set = set below 1 || 7 below set
+
+-- 5: "set outside 1 to 7, mask bit at n or above, value outside the mask"
+abbrev pub badField : ℕ → Target → Bool
+badField n (Links stage switch set) = badSet set
+badField n (Switch column switch) = false
+badField n (Pattern stage value mask set) = badSet set || mask notBelow size n || not (eqb (bitAnd value mask) value)
+
+-- 6: "A mask with fewer than two ones is too wide". `too-wide-names-half` and `narrow-names-quarter` say what that means in
+-- switches.
+abbrev pub tooWide : Target → Bool
+tooWide (Links stage switch set) = false
+tooWide (Switch column switch) = false
+tooWide (Pattern stage value mask set) = ones mask below 2
+
+-- a target that filing refuses for itself, by 4, 5 or 6
+abbrev pub unfit : ℕ → Target → Bool
+unfit n t = outsideFabric n t || badField n t || tooWide t
+
+-- how many of the labels 0 to k-1 a test picks
+unfoldable pub howMany : (ℕ → Bool) → ℕ → ℕ
+howMany test zero = 0
+howMany test (suc k) = howMany test k + cond (test k) 1 0
+
+-- how many switches have their link of code c at stage i named by a target
+abbrev pub switchesNamed : ℕ → Target → ℕ → ℕ → ℕ
+switchesNamed n t i c = howMany (λ j. names n t i j c) (size n)

@@ -1,0 +1,213 @@
+// Document 01, 'Notices': the book of notices, and its entries open, file, withdraw, link stopped or not, and listing.
+use table::Refusal;
+ghost use mathlib.Core.Path.{_≡_};
+ghost use mathlib.Core.Bool.{false};
+ghost use Prim.Native.Nat.{ℕ, _+_, _-_, _≤_, _<_};
+ghost use Rattle.fabric.specs.Labels.{size};
+ghost use Rattle.book.specs.Standing.{standing, bookOf, stands, stopper, unsound, Sound};
+ghost use Rattle.book.specs.Entries.{Opens, Files, Withdraws, Tests, Lists};
+
+mod targets; // targets.rt: which links a target names, and when filing refuses it
+mod places; // places.rt: the notices in their places
+mod rows; // rows.rt: the listing's bytes
+
+// One of the three targets of a notice.
+pub enum Target {
+    Links {
+        stage: u8,
+        switch: u16,
+        set: u8,
+    },
+    Switch {
+        column: u8,
+        switch: u16,
+    },
+    Pattern {
+        stage: u8,
+        value: u16,
+        mask: u16,
+        set: u8,
+    },
+}
+
+pub struct Notice {
+    pub number: u16,
+    pub target: Target,
+}
+
+// The first `count` notices stand, by rising number; every place after them holds number 0 and the first target, all zero.
+pub struct Book {
+    pub n: u8,
+    pub count: usize,
+    pub notices: [Notice; 48],
+}
+
+// What open, file and withdraw answer.
+pub enum Answer {
+    Done,
+    Refused(Refusal),
+}
+
+// The book handed back with the answer.
+pub struct Kept {
+    pub book: Book,
+    pub answer: Answer,
+}
+
+// What the link test answers.
+pub enum Link {
+    Clear,
+    Stopped,
+    Refused(Refusal),
+}
+
+// What the listing answers: how many notices stand.
+pub enum Listing {
+    Listed(usize),
+    Refused(Refusal),
+}
+
+// Whether no accepted opening, filing and withdrawing produce the book.
+pub fn unsound(book: Book) -> bool
+    ensures { λ r. ⌜ (r ≡ unsound book) × (r ≡ false → Sound book) ⌝ }
+{
+    if fabric::outside_sizes(book.n) {
+        return true;
+    }
+    if 48 < book.count {
+        return true;
+    }
+    if places::misfiled(book) {
+        return true;
+    }
+    places::littered(book)
+}
+
+// The lowest number of a standing notice that names the link, or 0.
+pub fn stopper(book: Book, stage: u8, switch: u16, code: u8) -> u16
+    requires { ⌜ (book .count ≤ 48) × (book .n ≤ 12) × (stage < book .n) × (switch < size (book .n)) × (code < 3) ⌝ }
+    ensures { λ r. ⌜ r ≡ stopper (book .n) (standing book) stage switch code ⌝ }
+{
+    let n = book.n;
+    let count = book.count;
+    let mut i = 0;
+    while i < count {
+        let x = book.notices[i];
+        if targets::names(n, x, stage, switch, code) {
+            return x.number;
+        }
+        i += 1;
+    }
+    0
+}
+
+fn done(book: Book) -> Kept
+    ensures { λ r. ⌜ (r .book ≡ book) × (r .answer ≡ Answer.Done) ⌝ }
+{
+    Kept {
+        book,
+        answer: Answer::Done,
+    }
+}
+
+fn refused(book: Book, why: Refusal) -> Kept
+    ensures { λ r. ⌜ (r .book ≡ book) × (r .answer ≡ Answer.Refused why) ⌝ }
+{
+    Kept {
+        book,
+        answer: Answer::Refused(why),
+    }
+}
+
+impl Book {
+    // Document 01: "open (n): 1, handing back a book of size 0 with no notices, which every entry over a book answers with
+    // 16; otherwise an empty book of size n."
+    pub fn open(n: u8) -> Kept
+        ensures { λ r. ⌜ Opens n r ⌝ }
+    {
+        if fabric::outside_sizes(n) {
+            return refused(places::empty(0), Refusal::Size);
+        }
+        done(places::empty(n))
+    }
+
+    // "file: 16, 3, 4, 5, 6, 7, 8."
+    pub fn file(self, notice: Notice) -> Kept
+        ensures { λ r. ⌜ Files self notice r ⌝ }
+    {
+        if unsound(self) {
+            return refused(self, Refusal::Book);
+        }
+        if notice.number == 0 {
+            return refused(self, Refusal::Zero);
+        }
+        let n = self.n;
+        if targets::outside_fabric(n, notice) {
+            return refused(self, Refusal::Place);
+        }
+        if targets::bad_field(n, notice) {
+            return refused(self, Refusal::Field);
+        }
+        if targets::too_wide(notice) {
+            return refused(self, Refusal::Wide);
+        }
+        if places::stands(self, notice.number) {
+            return refused(self, Refusal::Stands);
+        }
+        if 48 <= self.count {
+            return refused(self, Refusal::Full);
+        }
+        done(places::inserted(self, notice))
+    }
+
+    // "withdraw: 16, 3, 9."
+    pub fn withdraw(self, number: u16) -> Kept
+        ensures { λ r. ⌜ Withdraws self number r ⌝ }
+    {
+        if unsound(self) {
+            return refused(self, Refusal::Book);
+        }
+        if number == 0 {
+            return refused(self, Refusal::Zero);
+        }
+        if !places::stands(self, number) {
+            return refused(self, Refusal::Absent);
+        }
+        done(places::removed(self, number))
+    }
+
+    // "link stopped or not: 16, 4, 12."
+    pub fn link(self, stage: u8, switch: u16, code: u8) -> Link
+        ensures { λ r. ⌜ Tests self stage switch code r ⌝ }
+    {
+        if unsound(self) {
+            return Link::Refused(Refusal::Book);
+        }
+        let n = self.n;
+        if targets::either(n <= stage, fabric::outside_labels(n, switch)) {
+            return Link::Refused(Refusal::Place);
+        }
+        if 2 < code {
+            return Link::Refused(Refusal::Tag);
+        }
+        if stopper(self, stage, switch, code) == 0 {
+            return Link::Clear;
+        }
+        Link::Stopped
+    }
+
+    // "listing: 16, 13."
+    pub fn listing(self, memory: &mut [u8]) -> Listing
+        ensures { λ r. ⌜ Lists self (now (memory .entry)) (now (memory .exit)) r ⌝ }
+    {
+        if unsound(self) {
+            return Listing::Refused(Refusal::Book);
+        }
+        let count = self.count;
+        if memory.len() < 10 * count {
+            return Listing::Refused(Refusal::Room);
+        }
+        rows::laid(self, memory);
+        Listing::Listed(count)
+    }
+}

@@ -1,0 +1,182 @@
+// Runs the book's entries on document 01's example 13, on a full book, on every refusal that they give, and on damaged books,
+// and writes a line for each call.
+use book::Answer;
+use book::Book;
+use book::Link;
+use book::Listing;
+use book::Notice;
+use book::Target;
+use table::Refusal;
+
+mod full; // full.rt: 48 filings and the 49th
+mod refusals; // refusals.rt: each number of the table
+mod damaged; // damaged.rt: books that no entry hands back
+mod lists; // lists.rt: the listing's bytes
+
+// Standard output.
+const OUT: i32 = 1;
+
+fn main() {
+    example_13();
+    used_again();
+    inputs();
+    full::run();
+    refusals::run();
+    damaged::run();
+    lists::run();
+}
+
+pub fn say(text: &[u8]) {
+    io::write_all(OUT, text);
+}
+
+pub fn number(n: u64) {
+    io::print_decimal(OUT, n);
+}
+
+pub fn refused(why: Refusal) {
+    say(b" REFUSED ");
+    number(table::number(why) as u64);
+    say(b"\n");
+}
+
+pub fn told(answer: Answer) {
+    match answer {
+        Answer::Done => say(b" OK\n"),
+        Answer::Refused(why) => refused(why),
+    }
+}
+
+pub fn links(number: u16, stage: u8, switch: u16, set: u8) -> Notice {
+    Notice {
+        number,
+        target: Target::Links { stage, switch, set },
+    }
+}
+
+pub fn switch(number: u16, column: u8, switch: u16) -> Notice {
+    Notice {
+        number,
+        target: Target::Switch { column, switch },
+    }
+}
+
+pub fn pattern(number: u16, stage: u8, value: u16, mask: u16, set: u8) -> Notice {
+    Notice {
+        number,
+        target: Target::Pattern {
+            stage,
+            value,
+            mask,
+            set,
+        },
+    }
+}
+
+pub fn open(n: u8) -> Book {
+    say(b"open ");
+    number(n as u64);
+    let kept = Book::open(n);
+    let answer = kept.answer;
+    told(answer);
+    let book = kept.book;
+    book
+}
+
+pub fn file(book: Book, notice: Notice) -> Book {
+    say(b"file ");
+    number(notice.number as u64);
+    let kept = book.file(notice);
+    let answer = kept.answer;
+    told(answer);
+    let after = kept.book;
+    after
+}
+
+pub fn withdraw(book: Book, k: u16) -> Book {
+    say(b"withdraw ");
+    number(k as u64);
+    let kept = book.withdraw(k);
+    let answer = kept.answer;
+    told(answer);
+    let after = kept.book;
+    after
+}
+
+// A link by stage, switch and code.
+pub fn link(book: Book, stage: u8, switch: u16, code: u8) {
+    say(b"link ");
+    number(stage as u64);
+    say(b" ");
+    number(switch as u64);
+    say(b" ");
+    number(code as u64);
+    match book.link(stage, switch, code) {
+        Link::Clear => say(b" CLEAR\n"),
+        Link::Stopped => say(b" STOPPED\n"),
+        Link::Refused(why) => refused(why),
+    }
+}
+
+pub fn listing(book: Book, memory: &mut [u8]) {
+    say(b"listing in ");
+    number(memory.len() as u64);
+    match book.listing(memory) {
+        Listing::Listed(count) => {
+            say(b" LISTED ");
+            number(count as u64);
+            say(b"\n");
+        }
+        Listing::Refused(why) => refused(why),
+    }
+}
+
+// Example 13: "notices 7 and 8 name one link, 7 withdrawn: still stopped."
+fn example_13() {
+    say(b"example 13\n");
+    let b0 = open(3);
+    let b1 = file(b0, links(7, 0, 1, 4));
+    let b2 = file(b1, pattern(8, 0, 1, 3, 4));
+    link(b2, 0, 1, 2);
+    let b3 = withdraw(b2, 7);
+    link(b3, 0, 1, 2);
+    let b4 = withdraw(b3, 8);
+    link(b4, 0, 1, 2);
+}
+
+// "A withdrawn notice's number and place can be used again."
+fn used_again() {
+    say(b"used again\n");
+    let b0 = open(3);
+    let b1 = file(b0, links(7, 1, 6, 1));
+    let b2 = file(b1, links(7, 2, 0, 1));
+    let b3 = withdraw(b2, 7);
+    let b4 = file(b3, links(7, 2, 0, 1));
+    link(b4, 1, 6, 0);
+    link(b4, 2, 0, 0);
+    let b5 = withdraw(b4, 7);
+    let b6 = withdraw(b5, 7);
+    link(b6, 2, 0, 0);
+}
+
+// "It stops the switch's input links", reduced modulo N; "Column 0 has no input links"; plus and minus at the last stage.
+fn inputs() {
+    say(b"input links\n");
+    let b0 = open(3);
+    let b1 = file(b0, switch(1, 1, 2));
+    link(b1, 0, 2, 0);
+    link(b1, 0, 1, 1);
+    link(b1, 0, 3, 2);
+    link(b1, 0, 1, 2);
+    link(b1, 1, 2, 0);
+    let b2 = file(b1, switch(2, 3, 0));
+    link(b2, 2, 0, 0);
+    link(b2, 2, 4, 1);
+    link(b2, 2, 4, 2);
+    link(b2, 2, 0, 1);
+    let b3 = file(b2, switch(3, 0, 5));
+    link(b3, 0, 5, 0);
+    let b4 = file(b3, links(4, 2, 5, 2));
+    link(b4, 2, 5, 1);
+    link(b4, 2, 5, 2);
+}

@@ -1,0 +1,97 @@
+// Each number of the table that open, file, withdraw and the link test give, and which comes first where several lines hold.
+use super::file;
+use super::link;
+use super::links;
+use super::open;
+use super::pattern;
+use super::say;
+use super::switch;
+use super::withdraw;
+use book::Book;
+
+// 1: n outside 1 to 12; and the book then handed back.
+fn sizes() {
+    say(b"sizes\n");
+    let b = open(0);
+    file(b, links(0, 255, 0, 0));
+    withdraw(b, 0);
+    link(b, 255, 0, 3);
+    open(1);
+    open(12);
+    open(13);
+    open(255);
+}
+
+// 3 and 4.
+fn numbers_and_places(b: Book) {
+    say(b"numbers and places\n");
+    file(b, links(0, 3, 0, 0));
+    file(b, links(1, 3, 0, 0));
+    file(b, links(1, 2, 8, 8));
+    file(b, switch(1, 4, 0));
+    file(b, switch(1, 3, 8));
+    file(b, switch(1, 3, 7));
+    file(b, pattern(1, 3, 8, 8, 0));
+    file(b, links(65535, 255, 65535, 255));
+    file(b, switch(65535, 255, 65535));
+    file(b, pattern(65535, 255, 65535, 65535, 255));
+}
+
+// 5.
+fn fields(b: Book) {
+    say(b"fields\n");
+    file(b, links(1, 2, 7, 0));
+    file(b, links(1, 2, 7, 8));
+    file(b, links(1, 2, 7, 7));
+    file(b, pattern(1, 0, 0, 3, 0));
+    file(b, pattern(1, 0, 0, 3, 8));
+    file(b, pattern(1, 0, 0, 11, 1));
+    file(b, pattern(1, 0, 4, 3, 1));
+    file(b, pattern(1, 0, 8, 0, 1));
+    file(b, pattern(1, 0, 65535, 65535, 7));
+    file(b, pattern(65535, 2, 7, 7, 7));
+}
+
+// 6: at n = 1 no pattern is accepted.
+fn widths(b: Book) {
+    say(b"widths\n");
+    file(b, pattern(9, 0, 1, 1, 7));
+    file(b, pattern(9, 0, 0, 0, 7));
+    file(b, pattern(9, 0, 1, 3, 7));
+    let one = open(1);
+    file(one, pattern(9, 0, 1, 1, 7));
+    file(one, pattern(9, 0, 0, 0, 7));
+    file(one, pattern(9, 0, 1, 3, 7));
+}
+
+// 7 and 9.
+fn standing(b: Book) {
+    say(b"standing\n");
+    let b1 = file(b, links(7, 0, 0, 1));
+    file(b1, links(7, 1, 1, 1));
+    file(b1, links(7, 3, 1, 1));
+    withdraw(b1, 0);
+    withdraw(b1, 8);
+    withdraw(b1, 7);
+    withdraw(b, 7);
+}
+
+// 4 and 12 of the link test.
+fn tests(b: Book) {
+    say(b"links\n");
+    link(b, 3, 0, 0);
+    link(b, 2, 8, 3);
+    link(b, 2, 7, 3);
+    link(b, 2, 7, 2);
+    link(b, 255, 65535, 255);
+}
+
+pub fn run() {
+    sizes();
+    let b = open(3);
+    numbers_and_places(b);
+    fields(b);
+    widths(b);
+    standing(b);
+    tests(b);
+}
