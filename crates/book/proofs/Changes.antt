@@ -8,9 +8,9 @@ use native.Mathlib.Omega.{arith}
 use borrow.Author.Tests.{eqb-false, leb-false, le-ltb}
 use lib.ListN.{length, getD, replicate}
 use lib.Seq.{take-append-seam, drop-append-seam}
+use Rattle.table.proofs.Checks.{neither-of, given-refuses, passed-accepts, given-or-passed, passed-nth}
 use Rattle.table.specs.Reply.{Reply, refused}
 use Rattle.table.specs.Checks.{Given, Passed, _when_, _below_}
-use Rattle.table.proofs.Checks.{given-refuses, passed-accepts, given-or-passed, passed-nth}
 use Rattle.fabric.specs.Labels.{outsideSizes}
 use Rattle.book.specs.declared.Notice.{Notice}
 use Rattle.book.specs.declared.Book.{Book}
@@ -19,7 +19,7 @@ use Rattle.book.specs.Standing.{filler, standing, unused, bookOf, insert
 use Rattle.book.specs.declared.Kept.{Kept}
 use Rattle.book.specs.Entries.{answerSays, opened, Opens, Files, Withdraws, fileChecks}
 use Rattle.book.specs.Runs.{Change, changeChecks, changed, answer, after, Accepted}
-use Rattle.book.proofs.Filings.{neither-of, filed-passes, filler-unlittered}
+use Rattle.book.proofs.Filings.{filed-passes, filler-unlittered}
 use Rattle.book.proofs.Members.{insert-filed, insert-length, insert-member, insert-has, insert-keeps, without-filed, without-length, without-member, without-keeps}
 
 pub standing-of : (n : ℕ) (l : List Notice) → standing (bookOf n l) ≡ l

@@ -8,6 +8,7 @@ use native.Mathlib.Omega.{arith}
 use borrow.Author.Tests.{ne-eqb, lt-leb, eqb-true, leb-false, ltb-false}
 use lib.Dec.{eqb}
 use lib.ListN.{length, replicate, length-drop}
+use Rattle.table.proofs.Checks.{neither}
 use Rattle.table.specs.Checks.{_below_, _notBelow_}
 use Rattle.fabric.specs.Labels.{outsideSizes}
 use Rattle.book.specs.declared.Notice.{Notice}
@@ -16,13 +17,6 @@ use Rattle.book.specs.declared.Target.the-variants.{Links, Switch, Patte
 use Rattle.book.specs.Targets.{unfit}
 use Rattle.book.specs.declared.Book.{Book}
 use Rattle.book.specs.Standing.{filler, standing, unused, stands, Filed, misfiled, isFiller, isFirstTarget, littered, unsound, Sound}
-
-pub neither : (a b : Bool) → a || b ≡ false → (a ≡ false) × (b ≡ false)
-neither true b e = absurd (true≢false e)
-neither false b e = (refl, e)
-
-pub neither-of : (a b : Bool) → a ≡ false → b ≡ false → a || b ≡ false
-neither-of a b e f = rw (e, f)
 
 pub both-hold : (a b : Bool) → (a && b ≡ true) ↔ ((a ≡ true) × (b ≡ true))
 both-hold true b = ((λ e. (refl, e)), (λ w. w .1))

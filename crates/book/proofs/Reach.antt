@@ -9,6 +9,7 @@ use native.Mathlib.Omega.{arith}
 use borrow.Author.Tests.{ne-eqb, lt-leb, le-ltb}
 use lib.Dec.{leb}
 use lib.ListN.{length, replicate}
+use Rattle.table.proofs.Checks.{neither, neither-of}
 use Rattle.table.specs.Reply.{Reply, refused}
 use Rattle.table.specs.Checks.{Passed, Passed.none, Passed.passes, _notBelow_, checked}
 use Rattle.fabric.specs.Labels.{outsideSizes}
@@ -18,7 +19,7 @@ use Rattle.book.specs.Targets.{outsideFabric, badField, tooWide}
 use Rattle.book.specs.Standing.{filler, standing, bookOf, stands, insert, Filed, unsound}
 use Rattle.book.specs.Entries.{openChecks, opened, fileChecks}
 use Rattle.book.specs.Runs.{Change, after, Accepted, run, AllAccepted, Reachable, Distinct}
-use Rattle.book.proofs.Filings.{neither, neither-of, sound-if}
+use Rattle.book.proofs.Filings.{sound-if}
 use Rattle.book.proofs.Placing.{length-standing, split}
 use Rattle.book.proofs.Members.{Within, all-above, all-fit, one-number, filed-distinct, stands-member, insert-filed, insert-length, insert-member, insert-has, insert-keeps, within-length, same-notices}
 use Rattle.book.proofs.Changes.{standing-of, sound-of, Good, good-of, good-after, taken}

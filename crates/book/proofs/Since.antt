@@ -9,9 +9,9 @@ use native.Mathlib.Omega.{arith}
 use native.Mathlib.Decide.{ℕ-discrete}
 use borrow.Author.Tests.{ne-eqb, lt-leb, le-ltb}
 use lib.Dec.{eqb, leb}
+use Rattle.table.proofs.Checks.{neither-of, passed-accepts}
 use Rattle.table.specs.Reply.{Reply, refused}
 use Rattle.table.specs.Checks.{Passed.none, Passed.passes}
-use Rattle.table.proofs.Checks.{passed-accepts}
 use Rattle.fabric.specs.Labels.{size, outsideSizes}
 use Rattle.book.specs.declared.Notice.{Notice}
 use Rattle.book.specs.declared.Book.{Book}
@@ -20,7 +20,6 @@ use Rattle.book.specs.Targets.{names}
 use Rattle.book.specs.Standing.{standing, bookOf, Stopped, stopper}
 use Rattle.book.specs.Entries.{opened, linkChecks, linkSays, Tests}
 use Rattle.book.specs.Runs.{Change, after, Accepted, run, AllAccepted, NotWithdrawn, StandsSince, Distinct}
-use Rattle.book.proofs.Filings.{neither-of}
 use Rattle.book.proofs.Changes.{Good, good-after, filed-stands, stands-on, stood-or-filed}
 use Rattle.book.proofs.Reach.{good-run, good-sound, opened-good, opened-is, any-order}
 use Rattle.book.proofs.Stoppers.{stopper-some}

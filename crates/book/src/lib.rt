@@ -11,6 +11,8 @@ mod targets; // targets.rt: which links a target names, and when filing refuses 
 mod places; // places.rt: the notices in their places
 mod rows; // rows.rt: the listing's bytes
 
+pub use targets::names;
+
 // One of the three targets of a notice.
 pub enum Target {
     Links {

@@ -1,15 +1,11 @@
 -- What a size that is let through is known to be.
-use mathlib.Core.Path.{_≡_, refl}
-use mathlib.Core.Bool.{Bool, true, false, _||_, true≢false}
+use mathlib.Core.Path.{_≡_}
+use mathlib.Core.Bool.{Bool, false}
 use Prim.Native.Nat.{ℕ, _≤_}
 use borrow.Author.Tests.{ltb-false}
 use Rattle.table.specs.Checks.{_below_}
-use Rattle.table.proofs.Checks.{by-test, is-below, not-below}
+use Rattle.table.proofs.Checks.{neither, by-test, is-below, not-below}
 use Rattle.fabric.specs.Labels.{outsideSizes}
-
-neither : (a b : Bool) → (a || b) ≡ false → (a ≡ false) × (b ≡ false)
-neither true b e = absurd (true≢false e)
-neither false b e = (refl, e)
 
 pub some-stages : {made : Bool} {n : ℕ} → made ≡ outsideSizes n → made ≡ false → 1 ≤ n
 some-stages {made} {n} e v = ltb-false n 1 (neither (n below 1) (12 below n) (by-test e v) .0)

@@ -1,23 +1,25 @@
 -- The frontier, carried forward stage by stage, holds the first clear walk to each of its two switches; so the end of it is
 -- the first clear path, and where it is empty is the stage named.
 use mathlib.Core.Path.{_≡_, refl, sym, ap, ap₂, subst, _∙_}
-use mathlib.Core.Bool.{Bool, true, false, cond, true≢false}
+use mathlib.Core.Bool.{_||_, Bool, true, false, cond, true≢false}
 use mathlib.Core.List.{List, []}
 use mathlib.Core.Logic.{⊎-elim}
 use Prim.Native.Nat.{ℕ, suc, zero-le, _+_, _-_, _*_, _≤_, _<_}
 use native.Mathlib.Decide.{decLe}
 use native.Mathlib.Omega.{arith}
+use lib.Dec.{leb}
 use lib.ListN.{take}
 use Rattle.fabric.specs.Labels.{size, bit}
 use Rattle.fabric.proofs.Bits.{bit-lt}
 use Rattle.tags.specs.Scheme.{stateFor}
 use Rattle.tags.specs.Tags.{statesOf, normalTag}
 use Rattle.tags.proofs.Table.{stateFor-plus, stateFor-minus}
+use Rattle.table.proofs.Checks.{neither}
 use Rattle.paths.specs.declared.Place.{Place}
 use Rattle.paths.specs.declared.Front.{Front}
 use Rattle.paths.specs.declared.Stops.{Stops}
 use Rattle.paths.specs.Clear.{Rule, Onward, ClearPath, First, NoneCross, StageNamed}
-use Rattle.paths.specs.Frontier.{high, low, start, through, lesser, advanced}
+use Rattle.paths.specs.Frontier.{stopsFrom, high, low, start, through, lesser, advanced}
 use Rattle.paths.proofs.Keys.{keyOf}
 use Rattle.paths.proofs.Walks.{shorter, onward-path, path-onward}
 use Rattle.paths.proofs.Pivots.{highRight, low-bit-wrong, high-bit-wrong}
@@ -31,13 +33,34 @@ pub record Looks (n : ℕ) (stops : Rule) (s d i : ℕ) (right : Bool) (x : Stop
   pub plus : x .plus ≡ stops i (cond right (low n s d i) (high n s d i)) 1
   pub minus : x .minus ≡ stops i (cond right (low n s d i) (high n s d i)) 2
 
-module _ (n : ℕ) (stops : Rule) (s d : ℕ) (source : s < size n) where
-  -- what the frontier holds in column i
-  pub record Holds (i : ℕ) (f : Front) : Type 0 where
-    pub high : Best n s (sides n stops s d i .up) (f .high)
-    pub low : Best n s (sides n stops s d i .down) (f .low)
+-- what the frontier holds in column i
+pub record Holds (n : ℕ) (stops : Rule) (s d i : ℕ) (f : Front) : Type 0 where
+  pub high : Best n s (sides n stops s d i .up) (f .high)
+  pub low : Best n s (sides n stops s d i .down) (f .low)
 
-  pub start-holds : Holds 0 start
+-- the tag of the first clear path
+pub record Found (n : ℕ) (stops : Rule) (s d tag : ℕ) : Type 0 where
+  pub steps : List ℕ
+  pub first : First n stops s d steps
+  pub normal : tag ≡ normalTag n s steps
+
+pub looks-from : (n : ℕ) (stops : Rule) (s d i : ℕ) (right : Bool) (x : Stops) → x ≡ stopsFrom stops n i (high n s d i) right → Looks n stops s d i right x
+looks-from n stops s d i true x e = rw e (record { straight = refl; plus = refl; minus = refl })
+looks-from n stops s d i false x e = rw e (record { straight = refl; plus = refl; minus = refl })
+
+-- where one of two places is reached, so is the lesser
+pub lesser-reached : (p q : Place) → (p .reached || q .reached) ≡ true → lesser p q .reached ≡ true
+unfolding lesser
+lesser-reached p q e = go (p .reached) refl (q .reached) refl (leb (p .key) (q .key)) e
+  where
+    go : (x : Bool) → p .reached ≡ x → (y : Bool) → q .reached ≡ y → (z : Bool) → (x || y) ≡ true → cond x (cond y (cond z p q) p) q .reached ≡ true
+    go true a true b true h = a
+    go true a true b false h = b
+    go true a false b z h = a
+    go false a y b z h = b ∙ h
+
+module _ (n : ℕ) (stops : Rule) (s d : ℕ) (source : s < size n) where
+  pub start-holds : Holds n stops s d 0 start
   unfolding sides keyOf statesOf
   start-holds =
       record {
@@ -66,8 +89,8 @@ module _ (n : ℕ) (stops : Rule) (s d : ℕ) (source : s < size n) where
     high : Best n s (next n stops s d i b (sides n stops s d i) .up) (advanced right (bit i d) x i f .high)
     low : Best n s (next n stops s d i b (sides n stops s d i) .down) (advanced right (bit i d) x i f .low)
 
-  stepped : (i : ℕ) → i < n → (right : Bool) → highRight n s d source i ≡ right → (x : Stops) → Looks n stops s d i right x → (f : Front)
-      → Holds i f → Stepped i right right x f
+  stepped : (i : ℕ) → i < n → (right : Bool) → highRight n s d i ≡ right → (x : Stops) → Looks n stops s d i right x → (f : Front)
+      → Holds n stops s d i f → Stepped i right right x f
   unfolding advanced
   stepped i h true e x look f held =
       let hi : ℕ = high n s d i in
@@ -99,21 +122,30 @@ module _ (n : ℕ) (stops : Rule) (s d : ℕ) (source : s < size n) where
       }
 
   -- the frontier one stage on
-  pub advanced-holds : (i : ℕ) → i < n → (right : Bool) → highRight n s d source i ≡ right → (x : Stops) → Looks n stops s d i right x → (f : Front)
-      → Holds i f → Holds (suc i) (advanced right (bit i d) x i f)
+  pub advanced-holds : (i : ℕ) → i < n → (right : Bool) → highRight n s d i ≡ right → (x : Stops) → Looks n stops s d i right x → (f : Front)
+      → Holds n stops s d i f → Holds n stops s d (suc i) (advanced right (bit i d) x i f)
   unfolding sides
   advanced-holds i h right e x look f held =
       let w = subst (λ (b : Bool). Stepped i b right x f) (sym e) (stepped i h right e x look f held) in
       record { high = w .high; low = w .low }
 
   -- where neither switch of a column is reached, no clear walk arrives there; where one is, some walk does
-  pub none-reached : (i : ℕ) → i ≤ n → (f : Front) → Holds i f → f .high .reached ≡ false → f .low .reached ≡ false
+  pub none-reached : (i : ℕ) → i ≤ n → (f : Front) → Holds n stops s d i f → (f .high .reached || f .low .reached) ≡ false
       → (cs : List ℕ) → Onward n stops s d i cs → ⊥
-  none-reached i h f held a b cs w =
-      ⊎-elim (held .high .unreached a cs) (held .low .unreached b cs) (sides-complete n stops s d source i h cs w)
+  none-reached i h f held e cs w =
+      let o = neither (f .high .reached) (f .low .reached) e in
+      ⊎-elim (held .high .unreached (o .0) cs) (held .low .unreached (o .1) cs) (sides-complete n stops s d source i h cs w)
+
+  pub some-reached : (i : ℕ) → i ≤ n → (f : Front) → Holds n stops s d i f → (f .high .reached || f .low .reached) ≡ true
+      → (cs : List ℕ) × Onward n stops s d i cs
+  some-reached i h f held e = go (f .high .reached) refl e
+    where
+      go : (b : Bool) → f .high .reached ≡ b → (b || f .low .reached) ≡ true → (cs : List ℕ) × Onward n stops s d i cs
+      go true x y = let w = held .high .reached x in (w .walk, up-onward n stops s d source i h (w .walk) (w .among))
+      go false x y = let w = held .low .reached y in (w .walk, down-onward n stops s d source i h (w .walk) (w .among))
 
   -- at the end the lesser of the two is the first of all clear paths
-  both-sides : (f : Front) → Holds n f → Best n s (Onward n stops s d n) (lesser (f .high) (f .low))
+  both-sides : (f : Front) → Holds n stops s d n f → Best n s (Onward n stops s d n) (lesser (f .high) (f .low))
   both-sides f held =
       let w = lesser-best n s _ _ (f .high) (f .low) (held .high) (held .low) in
       record {
@@ -129,12 +161,7 @@ module _ (n : ℕ) (stops : Rule) (s d : ℕ) (source : s < size n) where
         unreached = λ e cs u. w .unreached e cs (sides-complete n stops s d source n (omega arith) cs u);
       }
 
-  pub record Found (tag : ℕ) : Type 0 where
-    pub steps : List ℕ
-    pub first : First n stops s d steps
-    pub normal : tag ≡ normalTag n s steps
-
-  pub found-first : d < size n → (f : Front) → Holds n f → lesser (f .high) (f .low) .reached ≡ true → Found (d + size n * lesser (f .high) (f .low) .states)
+  pub found-first : d < size n → (f : Front) → Holds n stops s d n f → lesser (f .high) (f .low) .reached ≡ true → Found n stops s d (d + size n * lesser (f .high) (f .low) .states)
   found-first hd f held e =
       let p : Place = lesser (f .high) (f .low) in
       let w = both-sides f held .reached e in

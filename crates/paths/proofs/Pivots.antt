@@ -34,14 +34,15 @@ module _ (n i j : ℕ) (inside : i < n) (label : j < size n) where
       mod-add-mod (j + 2 ^ i) (size n) (size n - 2 ^ suc i)
       ∙ ap (λ (x : ℕ). x % size n) {x = j + 2 ^ i + (size n - 2 ^ suc i)} {y = j + (size n - 2 ^ i)} (omega arith)
 
-module _ (n s d : ℕ) (source : s < size n) where
-  abbrev pub highRight : ℕ → Bool
-  highRight i = eqb (bit i (high n s d i)) (bit i d)
+-- whether the high switch's bit is right
+abbrev pub highRight : ℕ → ℕ → ℕ → ℕ → Bool
+highRight n s d i = eqb (bit i (high n s d i)) (bit i d)
 
+module _ (n s d : ℕ) (source : s < size n) where
   pub high-lt : (i : ℕ) → high n s d i < size n
   unfolding high
   high-lt zero = source
-  high-lt (suc i) = lands-lt n i (cond (highRight i) 0 1) (high n s d i) (high-lt i)
+  high-lt (suc i) = lands-lt n i (cond (highRight n s d i) 0 1) (high n s d i) (high-lt i)
 
   pub low-lt : (i : ℕ) → low n s d i < size n
   low-lt i = lands-lt n i 2 (high n s d i) (high-lt i)
@@ -51,7 +52,7 @@ module _ (n s d : ℕ) (source : s < size n) where
   high-agrees zero h = omega arith
   high-agrees (suc i) h = go (high-agrees i (omega arith)) (ℕ-discrete (bit i (high n s d i)) (bit i d))
     where
-      go : Agree i (high n s d i) d → Dec (bit i (high n s d i) ≡ bit i d) → Agree (suc i) (lands n i (cond (highRight i) 0 1) (high n s d i)) d
+      go : Agree i (high n s d i) d → Dec (bit i (high n s d i) ≡ bit i d) → Agree (suc i) (lands n i (cond (highRight n s d i) 0 1) (high n s d i)) d
       go a (yes e) = rw (eq-eqb _ _ e) (straight-toward n i h (high n s d i) d a e)
       go a (no e) = rw (ne-eqb _ _ e) (nonstraight-toward n i h 1 (high n s d i) d (omega arith) a e)
 
@@ -62,7 +63,7 @@ module _ (n s d : ℕ) (source : s < size n) where
   low-bit i h = nonstraight-bit n i h 2 (high n s d i) (omega arith)
 
   -- where the high one's bit is right it goes straight, and the low one forks
-  module _ (i : ℕ) (inside : i < n) (right : highRight i ≡ true) where
+  module _ (i : ℕ) (inside : i < n) (right : highRight n s d i ≡ true) where
     pub high-straight : lands n i 0 (high n s d i) ≡ high n s d (suc i)
     unfolding high
     high-straight = rw right
@@ -82,7 +83,7 @@ module _ (n s d : ℕ) (source : s < size n) where
     low-bit-wrong = low-bit i inside ∙ ap (λ (x : ℕ). 1 - x) high-bit-right
 
   -- where it is wrong the low one goes straight, and the high one forks
-  module _ (i : ℕ) (inside : i < n) (wrong : highRight i ≡ false) where
+  module _ (i : ℕ) (inside : i < n) (wrong : highRight n s d i ≡ false) where
     pub high-plus : lands n i 1 (high n s d i) ≡ high n s d (suc i)
     unfolding high
     high-plus = rw wrong

@@ -62,7 +62,7 @@ module _ (n : ℕ) (stops : Rule) (s d : ℕ) where
     down : (cs : List ℕ) → w .down cs → Arrives i (low n s d i) cs
 
   module _ (source : s < size n) where
-    next-sound : (i : ℕ) → i < n → (b : Bool) → highRight n s d source i ≡ b → (w : Pair) → Sound i w → Sound (suc i) (next i b w)
+    next-sound : (i : ℕ) → i < n → (b : Bool) → highRight n s d i ≡ b → (w : Pair) → Sound i w → Sound (suc i) (next i b w)
     next-sound i h true right w sound =
         let hi : ℕ = high n s d i in
         let lo : ℕ = low n s d i in
@@ -117,7 +117,7 @@ module _ (n : ℕ) (stops : Rule) (s d : ℕ) where
     turned A B (suc (suc zero)) code z a one two = two a
     turned A B (suc (suc (suc c))) code z a one two = absurd (omega arith)
 
-    next-complete : (i : ℕ) → i < n → (b : Bool) → highRight n s d source i ≡ b → (w : Pair) → Sound i w → (cs : List ℕ)
+    next-complete : (i : ℕ) → i < n → (b : Bool) → highRight n s d i ≡ b → (w : Pair) → Sound i w → (cs : List ℕ)
         → (l : Last n stops s d i cs) → (w .up (l .before)) ⊎ (w .down (l .before)) → (next i b w .up cs) ⊎ (next i b w .down cs)
     next-complete i h true right w sound cs l (inl u) =
         let e = sound .up (l .before) u .at in

@@ -54,3 +54,11 @@ advanced highRight t x i f =
 pub record Small (i : ℕ) (p : Place) : Type 0 where
   pub key : p .key < 2 ^ i
   pub states : p .states < 2 ^ i
+
+-- the numbers that a rule gives for the straight link of one switch of stage i and the nonstraight links of another
+abbrev pub linksOf : (ℕ → ℕ → ℕ → ℕ) → ℕ → ℕ → ℕ → Stops
+linksOf stops i straight fork = record { straight = stops i straight 0; plus = stops i fork 1; minus = stops i fork 2 }
+
+-- those of the two switches of column i, the high one at j: the one whose bit is right goes straight, the other forks
+abbrev pub stopsFrom : (ℕ → ℕ → ℕ → ℕ) → ℕ → ℕ → ℕ → Bool → Stops
+stopsFrom stops n i j right = cond right (linksOf stops i j (lands n i 2 j)) (linksOf stops i (lands n i 2 j) j)

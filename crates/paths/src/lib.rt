@@ -1,5 +1,6 @@
 // The frontier of clear walks toward a destination, carried forward stage by stage: at most two switches in each column.
 ghost use mathlib.Core.Path.{_≡_};
+ghost use mathlib.Core.Bool.{cond, _||_};
 ghost use Prim.Native.Nat.{ℕ, suc, _+_, _-_, _*_, _^_, _≤_, _<_};
 ghost use Rattle.paths.specs.Frontier.{Small, start, nowhere, through, lesser, advanced};
 
@@ -109,4 +110,23 @@ pub fn advance(front: Front, right: bool, t: u8, stops: Stops, i: u8) -> Front
     let down = by_link(high, stops.minus, t, i);
     let met = first_of(straight, down);
     Front { high: up, low: met }
+}
+
+// Whether one of the two switches is reached.
+pub fn reached(front: Front) -> bool
+    ensures { λ r. ⌜ r ≡ (front .high .reached || front .low .reached) ⌝ }
+{
+    let high = front.high;
+    if high.reached {
+        return true;
+    }
+    let low = front.low;
+    low.reached
+}
+
+// The code of the link that leads from the high switch of a column to that of the next.
+pub fn rise(right: bool) -> u8
+    ensures { λ r. ⌜ r ≡ cond right 0 1 ⌝ }
+{
+    if right { 0 } else { 1 }
 }

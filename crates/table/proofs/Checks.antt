@@ -1,6 +1,6 @@
 -- `checked` is document 01's sentence: a number is given exactly when its line holds and no earlier check failed.
 use mathlib.Core.Path.{_≡_, refl, sym, _∙_}
-use mathlib.Core.Bool.{Bool, true, false}
+use mathlib.Core.Bool.{Bool, true, false, _||_, true≢false}
 use mathlib.Core.List.{List, [], _∷_}
 use mathlib.Core.Logic.{_⊎_, inl, inr}
 use Prim.Native.Nat.{ℕ, zero, suc, _≤_, _<_}
@@ -59,6 +59,13 @@ passed-nth (c ∷ cs) (suc k) (passes h p) = passed-nth cs k p
 -- what a test that the code made says of the test that it stands for
 pub by-test : {made meant value : Bool} → made ≡ meant → made ≡ value → meant ≡ value
 by-test e v = sym e ∙ v
+
+pub neither : (a b : Bool) → (a || b) ≡ false → (a ≡ false) × (b ≡ false)
+neither true b e = absurd (true≢false e)
+neither false b e = (refl, e)
+
+pub neither-of : (a b : Bool) → a ≡ false → b ≡ false → (a || b) ≡ false
+neither-of a b e f = rw (e, f)
 
 pub not-below : {made : Bool} {a b : ℕ} → made ≡ (a below b) → made ≡ false → b ≤ a
 not-below {made} {a} {b} e v = ltb-false a b (by-test e v)

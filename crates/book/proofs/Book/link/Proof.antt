@@ -3,9 +3,8 @@ use mathlib.Core.Path.{sym, _∙_}
 use borrow.Author.Tests.{leb-false}
 use borrow.Author.Needs.{needs}
 use lib.Dec.{leb}
-use Rattle.table.proofs.Checks.{refusing, accepting}
+use Rattle.table.proofs.Checks.{neither, refusing, accepting}
 use Rattle.book.proofs.Answers.{either-of, link-refused, link-clear, link-stopped}
-use Rattle.book.proofs.Filings.{neither}
 use Rattle.book.proofs.Book.link.Statement.{statement}
 use Rattle.book.proofs.Book.link.Tie as tie
 
