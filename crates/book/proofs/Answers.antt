@@ -55,6 +55,12 @@ turned-false e f = ap not (sym e) ∙ f
 pub sound-by : {made : Bool} {b : Book} → (made ≡ false → Sound b) → made ≡ false → Sound b
 sound-by f = f
 
+pub few-by : {made : Bool} {b : Book} → (made ≡ false → Sound b) → made ≡ false → b .n ≤ 12
+few-by f e = f e .few
+
+pub fits-by : {made : Bool} {b : Book} → (made ≡ false → Sound b) → made ≡ false → b .count ≤ 48
+fits-by f e = f e .fits
+
 module _ (b : Book) (i j c : ℕ) where
   pub link-refused : (why : Refusal) → Given (numberOf why) (linkChecks b i j c) → Tests b i j c (Link.Refused why)
   link-refused why g = record { says = sym (given-refuses refused _ (numberOf why) (linkChecks b i j c) g) }

@@ -1,11 +1,12 @@
 -- The router's own bookkeeping: what its arrays hold. Nobody has to believe it; `Routes` is what it leads to.
 use mathlib.Core.Path.{_≡_}
-use mathlib.Core.Bool.{Bool, cond}
+use mathlib.Core.Bool.{cond}
 use mathlib.Core.List.{List}
 use Prim.Native.Nat.{ℕ, _<_}
 use lib.Dec.{eqb}
 use lib.ListN.{getD}
 use Rattle.fabric.specs.Labels.{size, bit}
+use Rattle.fabric.specs.Links.{lands}
 use Rattle.paths.specs.declared.Stops.{Stops}
 use Rattle.paths.specs.Clear.{Rule}
 use Rattle.paths.specs.Frontier.{high, stopsFrom}
@@ -35,3 +36,8 @@ mark n x i j c old = cond (names n (x .target) i j c) (x .number) old
 abbrev pub marksOf : ℕ → Notice → ℕ → ℕ → ℕ → Stops → Stops
 marksOf n x i straight fork old =
     record { straight = mark n x i straight 0 (old .straight); plus = mark n x i fork 1 (old .plus); minus = mark n x i fork 2 (old .minus) }
+
+-- at a stage whose high switch is h: the switch whose bit is right goes straight, the other one forks
+abbrev pub marksAt : ℕ → ℕ → ℕ → Notice → ℕ → Stops → Stops
+marksAt n d h x i old =
+    cond (eqb (bit i h) (bit i d)) (marksOf n x i h (lands n i 2 h) old) (marksOf n x i (lands n i 2 h) h old)

@@ -5,24 +5,19 @@ use book::Notice;
 use book::Target;
 use paths::Stops;
 ghost use mathlib.Core.Path.{_≡_};
-ghost use mathlib.Core.Bool.{cond, false};
-ghost use mathlib.Core.List.{List, _∷_};
+ghost use mathlib.Core.Bool.{false};
 ghost use Prim.Native.Nat.{ℕ, _+_, _≤_, _<_};
-ghost use lib.Dec.{eqb};
-ghost use lib.ListN.{getD};
-ghost use Rattle.fabric.specs.Labels.{size, bit};
-ghost use Rattle.fabric.specs.Links.{lands};
+ghost use Rattle.fabric.specs.Labels.{size};
 ghost use Rattle.book.specs.Targets.{names};
-ghost use Rattle.book.specs.Standing.{stopper};
 ghost use Rattle.router.specs.Entries.{stopsOf};
-ghost use Rattle.router.specs.Marks.{Highs, Labels, Marked, unmarked, mark, marksOf};
+ghost use Rattle.router.specs.Marks.{Highs, Labels, Marked, unmarked, mark, marksOf, marksAt};
 
 // The high switches of the columns before the last.
-pub fn highs(n: u8, source: u16, destination: u16) -> [u16; 12]
+pub fn highs(n: u8, source: u16, destination: u16) -> [u16; 13]
     requires { ⌜ (n ≤ 12) × (source < size n) ⌝ }
     ensures { λ r. ⌜ (Highs n source destination r) × (Labels n r) ⌝ }
 {
-    let mut out = [0u16; 12];
+    let mut out = [0u16; 13];
     let mut j = source;
     let mut i = 0;
     while i < n {
@@ -34,19 +29,23 @@ pub fn highs(n: u8, source: u16, destination: u16) -> [u16; 12]
     out
 }
 
-// What the book's notices stop, from the last notice to the first.
-pub fn marks(book: Book, destination: u16, highs: [u16; 12]) -> [Stops; 12]
+// What the book's notices stop at each stage, from the last notice to the first. Place 12 is for those that name no link.
+pub fn marks(book: Book, destination: u16, highs: [u16; 13]) -> [Stops; 13]
     requires { ⌜ (book .count ≤ 48) × (book .n ≤ 12) × (Labels (book .n) highs) ⌝ }
     ensures { λ r. ⌜ Marked (book .n) (stopsOf book) destination highs r ⌝ }
 {
     let n = book.n;
     let none = nothing();
-    let mut out = [none; 12];
+    let mut out = [none; 13];
     let mut k = book.count;
     while 0 < k {
         k -= 1;
         let x = book.notices[k];
-        out = with_notice(n, destination, highs, out, x);
+        let i = stage_of(x);
+        let old = out[i as usize];
+        let high = highs[i as usize];
+        let new = with_notice(n, destination, high, old, x, i);
+        out[i as usize] = new;
     }
     out
 }
@@ -61,32 +60,9 @@ fn nothing() -> Stops
     }
 }
 
-// The marks with a notice before those that made them.
-fn with_notice(
-    n: u8,
-    destination: u16,
-    highs: [u16; 12],
-    marks: [Stops; 12],
-    x: Notice,
-) -> [Stops; 12]
-    requires { ⌜ (n ≤ 12) × (Labels n highs) ⌝ }
-    ensures { λ r. ⌜ ((l : List Notice) → Marked n (stopper n l) destination highs marks → Marked n (stopper n (x ∷ l)) destination highs r) ⌝ }
-{
-    let i = stage_of(x);
-    if n <= i {
-        return marks;
-    }
-    let mut out = marks;
-    let old = marks[i as usize];
-    let high = highs[i as usize];
-    let new = at_stage(n, destination, high, old, x, i);
-    out[i as usize] = new;
-    out
-}
-
-// The stage in which a notice names links; 255 where it names none.
+// The stage in which a notice names links; 12 where it names none.
 fn stage_of(x: Notice) -> u8
-    ensures { λ r. ⌜ ((n i j c : ℕ) → i < 255 → (i ≡ r → ⊥) → names n (x .target) i j c ≡ false) ⌝ }
+    ensures { λ r. ⌜ (r ≤ 12) × ((n i j c : ℕ) → i < 12 → (i ≡ r → ⊥) → names n (x .target) i j c ≡ false) ⌝ }
 {
     let t = x.target;
     match t {
@@ -94,31 +70,46 @@ fn stage_of(x: Notice) -> u8
             stage,
             switch: _,
             set: _,
-        } => stage,
-        Target::Switch { column, switch: _ } => stage_before(column),
+        } => stage_before(stage, 0),
+        Target::Switch { column, switch: _ } => stage_before(column, 1),
         Target::Pattern {
             stage,
             value: _,
             mask: _,
             set: _,
-        } => stage,
+        } => stage_before(stage, 0),
     }
 }
 
-// The stage before a column; 255 for column 0.
-fn stage_before(column: u8) -> u8
-    ensures { λ r. ⌜ ((i : ℕ) → i < 255 → i + 1 ≡ column → i ≡ r) ⌝ }
+// The stage that lies so many columns before a column; 12 where there is none.
+fn stage_before(column: u8, before: u8) -> u8
+    requires { ⌜ before < 2 ⌝ }
+    ensures { λ r. ⌜ (r ≤ 12) × ((i : ℕ) → i < 12 → i + before ≡ column → i ≡ r) ⌝ }
 {
-    if column == 0 {
-        return 255;
+    if column < before {
+        return 12;
     }
-    column - 1
+    if 12 < column - before {
+        return 12;
+    }
+    column - before
 }
 
-// The marks of one stage with a notice more: the switch whose bit is right goes straight, the other one forks.
+// The marks of a stage with a notice more, before those that made them.
+fn with_notice(n: u8, destination: u16, high: u16, old: Stops, x: Notice, i: u8) -> Stops
+    requires { ⌜ (n ≤ 12) × (i < n → high < size n) ⌝ }
+    ensures { λ r. ⌜ (i < n → r ≡ marksAt n destination high x i old) ⌝ }
+{
+    if n <= i {
+        return old;
+    }
+    at_stage(n, destination, high, old, x, i)
+}
+
+// The switch whose bit is right goes straight, the other one forks.
 fn at_stage(n: u8, destination: u16, high: u16, old: Stops, x: Notice, i: u8) -> Stops
     requires { ⌜ (n ≤ 12) × (i < n) × (high < size n) ⌝ }
-    ensures { λ r. ⌜ r ≡ cond (eqb (bit i high) (bit i destination)) (marksOf n x i high (lands n i 2 high) old) (marksOf n x i (lands n i 2 high) high old) ⌝ }
+    ensures { λ r. ⌜ r ≡ marksAt n destination high x i old ⌝ }
 {
     let low = fabric::landing(n, i, 2, high);
     if fabric::bit_of(i, high) == fabric::bit_of(i, destination) {

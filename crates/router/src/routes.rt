@@ -3,12 +3,12 @@ use crate::Found;
 use crate::marks::highs;
 use crate::marks::marks;
 use book::Book;
-use paths::Front;
+use paths::Stops;
 use table::Refusal;
 ghost use mathlib.Core.Path.{_≡_};
 ghost use Prim.Native.Nat.{_≤_, _<_};
-ghost use lib.ListN.{length};
 ghost use Rattle.fabric.specs.Labels.{size};
+ghost use Rattle.paths.specs.Clear.{Rule};
 ghost use Rattle.router.specs.Entries.{stopsOf, Routed, Routes};
 ghost use Rattle.router.specs.Marks.{Highs, Marked};
 
@@ -29,7 +29,7 @@ pub fn route(book: Book, source: u16, destination: u16) -> Found
     ahead(book, source, destination)
 }
 
-// The frontier from the source to the last column, or to the stage where it is empty.
+// The route over the links that the book stops.
 fn ahead(book: Book, source: u16, destination: u16) -> Found
     requires { ⌜ (book .count ≤ 48) × (book .n ≤ 12) × (source < size (book .n)) × (destination < size (book .n)) ⌝ }
     ensures { λ r. ⌜ Routed (book .n) (stopsOf book) source destination r ⌝ }
@@ -37,6 +37,14 @@ fn ahead(book: Book, source: u16, destination: u16) -> Found
     let n = book.n;
     let highs = highs(n, source, destination);
     let marks = marks(book, destination, highs);
+    cross(n, source, destination, highs, marks)
+}
+
+// The frontier from the source to the last column, or to the stage where it is empty, for whatever rule the marks are of.
+fn cross(n: u8, source: u16, destination: u16, highs: [u16; 13], marks: [Stops; 13]) -> Found
+    requires { ⌜ (n ≤ 12) × (source < size n) × (destination < size n) ⌝ }
+    ensures { λ r. ⌜ ((stops : Rule) → Highs n source destination highs → Marked n stops destination highs marks → Routed n stops source destination r) ⌝ }
+{
     let mut front = paths::at_source();
     let mut i = 0;
     while i < n {

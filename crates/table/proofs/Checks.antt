@@ -67,6 +67,12 @@ neither false b e = (refl, e)
 pub neither-of : (a b : Bool) → a ≡ false → b ≡ false → (a || b) ≡ false
 neither-of a b e f = rw (e, f)
 
+pub one-of : (a b : Bool) → a ≡ true → (a || b) ≡ true
+one-of a b e = rw e
+
+pub other-of : (a b : Bool) → a ≡ false → b ≡ true → (a || b) ≡ true
+other-of a b e f = rw (e, f)
+
 pub not-below : {made : Bool} {a b : ℕ} → made ≡ (a below b) → made ≡ false → b ≤ a
 not-below {made} {a} {b} e v = ltb-false a b (by-test e v)
 

@@ -1,65 +1,70 @@
+-- The loop holds the high switch of column i, and the array those of the columns before it.
+use mathlib.Core.Path.{_≡_, refl, _∙_}
+use Prim.Native.Nat.{ℕ, _-_, _≤_, _<_}
+use native.Mathlib.Omega.{arith}
 use borrow.Author.Needs.{needs}
+use lib.ListN.{length, getD, length-set}
+use Rattle.fabric.specs.Labels.{size}
+use Rattle.paths.specs.Frontier.{high}
+use Rattle.paths.proofs.Pivots.{high-next}
+use Rattle.router.proofs.Marking.{filled-more}
 use Rattle.router.proofs.marks.highs.Statement.{statement}
 use Rattle.router.proofs.marks.highs.Tie as tie
-use Rattle.router.proofs.marks.highs.Reads as reads
-use Rattle.router.proofs.marks.highs.Lts as lts
-use Rattle.fabric.proofs.bit_of.Reads as bit-of-reads
-use Rattle.fabric.proofs.landing.Reads as landing-reads
-use Rattle.paths.proofs.rise.Reads as rise-reads
 
 abbrev Inv-loop : tie.InvT-loop
-Inv-loop n source destination out₀ j₀ i₀ out j i = ?
+Inv-loop n source destination out₀ j₀ i₀ out j i =
+    (i ≤ n) × (j < size n) × (j ≡ high n source destination i) × (length out ≡ 13)
+    × ((k : ℕ) → k < i → (getD out k 0 ≡ high n source destination k) × (getD out k 0 < size n))
 
 abbrev μ-loop : tie.MeasureT-loop
-μ-loop n source destination out₀ j₀ i₀ out j i = ?
+μ-loop n source destination out₀ j₀ i₀ out j i = n - i
 
--- src/marks.rt:26:5
 loop-holds : tie.Need-loop-holds Inv-loop μ-loop
-loop-holds c = ?
+unfolding high
+loop-holds c = (search needs, search needs, refl, refl, λ k h. absurd (omega arith))
 
--- src/marks.rt:27:13
 cast-out : tie.Need-cast-out Inv-loop μ-loop
-cast-out c = ?
+cast-out c = search needs
 
--- src/marks.rt:27:9
 mul-out : tie.Need-mul-out Inv-loop μ-loop
-mul-out c = ?
+mul-out c = search needs
 
--- src/marks.rt:27:9
 array-write-out : tie.Need-array-write-out Inv-loop μ-loop
-array-write-out c = ?
+array-write-out c = search needs
 
--- src/marks.rt:28:21
 bit-of-requires : tie.Need-bit-of-requires Inv-loop μ-loop
-bit-of-requires c κs = ?
+bit-of-requires c κs = search needs
 
--- src/marks.rt:28:45
 bit-of-requires-2 : tie.Need-bit-of-requires-2 Inv-loop μ-loop
-bit-of-requires-2 c κs = ?
+bit-of-requires-2 c κs = search needs
 
--- src/marks.rt:29:35
 rise-requires : tie.Need-rise-requires Inv-loop μ-loop
-rise-requires c κs = ?
+rise-requires c κs = search needs
 
--- src/marks.rt:29:9
 landing-requires : tie.Need-landing-requires Inv-loop μ-loop
-landing-requires c κs = ?
+landing-requires c κs = search needs
 
--- src/marks.rt:30:9
 add-i : tie.Need-add-i Inv-loop μ-loop
-add-i c = ?
+add-i c = search needs
 
--- src/marks.rt:26:5
 loop-less : tie.Need-loop-less Inv-loop μ-loop
-loop-less c = ?
+loop-less c = search needs
 
--- src/marks.rt:26:5
 loop-again : tie.Need-loop-again Inv-loop μ-loop
-loop-again c = ?
+loop-again c =
+    let a = c .before .before .before .before .before .before .args in
+    let v = c .before .before .before .before .before .loop in
+    let w = v .inv in (
+      omega arith,
+      c .landing .ensures .1,
+      c .landing .ensures .0
+          ∙ high-next (a .n) (a .source) (a .destination) (v .i) (v .j) _ _ _ (w .2) (c .before .before .before .bit-of .ensures .0) (c .before .before .bit-of2 .ensures .0) (c .before .rise .ensures),
+      length-set (v .out) (v .i) (v .j) ∙ w .3,
+      filled-more (λ k x. (x ≡ high (a .n) (a .source) (a .destination) k) × (x < size (a .n))) (v .out) (v .i) (v .j) (omega arith) (w .4) (w .2, w .1),
+    )
 
--- src/marks.rt:19:1
 returns : tie.Need-returns Inv-loop μ-loop
-returns c = ?
+returns c = (λ k h. c .before .loop .inv .4 k (omega arith) .0, λ k h. c .before .loop .inv .4 k (omega arith) .1)
 
 pub highs-spec : {M : Type 1} → statement M
 highs-spec =

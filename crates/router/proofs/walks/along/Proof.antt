@@ -1,58 +1,69 @@
+-- The loop holds the switch of column i, and the links passed are clear.
+use mathlib.Core.Path.{_≡_, refl, sym, _∙_}
+use Prim.Native.Nat.{_-_, _≤_, _<_}
+use native.Mathlib.Omega.{arith}
 use borrow.Author.Needs.{needs}
+use Rattle.fabric.specs.Labels.{size}
+use Rattle.fabric.specs.Walks.{switchAt, walked}
+use Rattle.tags.specs.Tags.{stepsOf}
+use Rattle.router.specs.Entries.{stopsOf}
+use Rattle.router.proofs.Walking.{ClearUpTo, clear-more, stopped-here, next-switch, walk-ends}
 use Rattle.router.proofs.walks.along.Statement.{statement}
 use Rattle.router.proofs.walks.along.Tie as tie
-use Rattle.router.proofs.walks.along.Reads as reads
-use Rattle.router.proofs.walks.along.Lts as lts
-use Rattle.book.proofs.stopper.Reads as stopper-reads
-use Rattle.fabric.proofs.landing.Reads as landing-reads
-use Rattle.router.proofs.walks.end_at.Reads as end-at-reads
-use Rattle.tags.proofs.step_of.Reads as step-of-reads
 
 abbrev Inv-loop : tie.InvT-loop
-Inv-loop book source tag n j₀ i₀ j i = ?
+Inv-loop book source tag n j₀ i₀ j i =
+    (i ≤ n) × (j < size n) × (n ≡ book .n) × (j ≡ switchAt n source (stepsOf n source tag) i) × ClearUpTo n (stopsOf book) source tag i
 
 abbrev μ-loop : tie.MeasureT-loop
-μ-loop book source tag n j₀ i₀ j i = ?
+μ-loop book source tag n j₀ i₀ j i = n - i
 
--- src/walks.rt:38:9
 loop-holds : tie.Need-loop-holds Inv-loop μ-loop
-loop-holds c = ?
+unfolding walked
+loop-holds c = (search needs, search needs, refl, refl, λ k h. absurd (omega arith))
 
--- src/walks.rt:40:19
 end-at-requires : tie.Need-end-at-requires Inv-loop μ-loop
-end-at-requires c κs = ?
+end-at-requires c κs = search needs
 
--- src/walks.rt:42:13
 step-of-requires : tie.Need-step-of-requires Inv-loop μ-loop
-step-of-requires c κs = ?
+step-of-requires c κs = search needs
 
--- src/walks.rt:43:12
 stopper-requires : tie.Need-stopper-requires Inv-loop μ-loop
-stopper-requires c κs = ?
+stopper-requires c κs = search needs
 
--- src/walks.rt:46:9
 landing-requires : tie.Need-landing-requires Inv-loop μ-loop
-landing-requires c κs = ?
+landing-requires c κs = search needs
 
--- src/walks.rt:47:9
 add-i : tie.Need-add-i Inv-loop μ-loop
-add-i c = ?
+add-i c = search needs
 
--- src/walks.rt:38:9
 loop-less : tie.Need-loop-less Inv-loop μ-loop
-loop-less c = ?
+loop-less c = search needs
 
--- src/walks.rt:38:9
 loop-again : tie.Need-loop-again Inv-loop μ-loop
-loop-again c = ?
+loop-again c =
+    let a = c .before .before .before .before .before .before .args in
+    let v = c .before .before .before .before .before .loop in
+    let w = v .inv in
+    let uses = c .before .before .before .step-of .ensures .0 in (
+      omega arith,
+      c .landing .ensures .1,
+      refl,
+      c .landing .ensures .0 ∙ next-switch (a .book .n) (stopsOf (a .book)) (a .source) (a .tag) (v .i) (v .j) _ (omega arith) (w .3) uses,
+      clear-more (a .book .n) (stopsOf (a .book)) (a .source) (a .tag) (v .i) (v .j) _ (omega arith) (w .3) uses (w .4) (sym (c .before .before .stopper .ensures) ∙ c .before .if2 .left),
+    )
 
--- src/walks.rt:31:1
 returns : tie.Need-returns Inv-loop μ-loop
-returns c = ?
+returns c =
+    let a = c .before .before .before .args in
+    let v = c .before .before .loop in
+    walk-ends (a .book .n) (stopsOf (a .book)) (a .source) (a .tag) (v .i) (v .j) _ (c .before .if1 .taken) (v .inv .3) (v .inv .4) (c .end-at .ensures)
 
--- src/walks.rt:31:1
 returns-2 : tie.Need-returns-2 Inv-loop μ-loop
-returns-2 c = ?
+returns-2 c =
+    let a = c .before .before .before .before .before .args in
+    let v = c .before .before .before .before .loop in
+    stopped-here (a .book .n) (stopsOf (a .book)) (a .source) (a .tag) (v .i) (v .j) _ (omega arith) (v .inv .3) (c .before .before .step-of .ensures .0) (v .inv .4) (λ e. c .if2 .taken (c .before .stopper .ensures ∙ e))
 
 pub along-spec : {M : Type 1} → statement M
 along-spec =

@@ -1,44 +1,34 @@
+-- Each refusal is the number of the first check that holds; where none does, the work gives the answer.
 use borrow.Author.Needs.{needs}
+use Rattle.table.proofs.Checks.{refusing, accepting, is-below}
+use Rattle.book.proofs.Answers.{few-by, fits-by}
+use Rattle.router.proofs.Promises.{walk-refuses, walk-passes}
 use Rattle.router.proofs.walks.walk.Statement.{statement}
 use Rattle.router.proofs.walks.walk.Tie as tie
-use Rattle.router.proofs.walks.walk.Reads as reads
-use Rattle.router.proofs.walks.walk.Lts as lts
-use Rattle.book.proofs.unsound.Reads as unsound-reads
-use Rattle.fabric.proofs.outside_labels.Reads as outside-labels-reads
-use Rattle.router.proofs.walks.along.Reads as along-reads
-use Rattle.tags.proofs.outside_tags.Reads as outside-tags-reads
 
--- src/walks.rt:17:8
 unsound-requires : tie.Need-unsound-requires
-unsound-requires c κs = search needs
+unsound-requires c κs = search (needs, few-by, fits-by, is-below)
 
--- src/walks.rt:18:9
 returns : tie.Need-returns
-returns c = ?
+returns c = search (walk-refuses, refusing) depth 10
 
--- src/walks.rt:21:8
 outside-labels-requires : tie.Need-outside-labels-requires
-outside-labels-requires c κs = ?
+outside-labels-requires c κs = search (needs, few-by, fits-by, is-below)
 
--- src/walks.rt:22:9
 returns-2 : tie.Need-returns-2
-returns-2 c = ?
+returns-2 c = search (walk-refuses, refusing) depth 10
 
--- src/walks.rt:24:8
 outside-tags-requires : tie.Need-outside-tags-requires
-outside-tags-requires c κs = ?
+outside-tags-requires c κs = search (needs, few-by, fits-by, is-below)
 
--- src/walks.rt:25:9
 returns-3 : tie.Need-returns-3
-returns-3 c = ?
+returns-3 c = search (walk-refuses, refusing) depth 10
 
--- src/walks.rt:27:5
 along-requires : tie.Need-along-requires
-along-requires c κs = ?
+along-requires c κs = search (needs, few-by, fits-by, is-below)
 
--- src/walks.rt:14:1
 returns-4 : tie.Need-returns-4
-returns-4 c = ?
+returns-4 c = search (walk-passes, accepting) depth 10
 
 pub walk-spec : {M : Type 1} → statement M
 walk-spec =

@@ -1,0 +1,4 @@
+pub mod Marking
+pub mod Promises
+pub mod Walking
+pub mod Routing

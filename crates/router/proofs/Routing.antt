@@ -1,0 +1,48 @@
+-- The frontier over a book's marks: one stage on, empty, and at its end.
+use mathlib.Core.Path.{_≡_, sym, ap, ap₂, subst, _∙_}
+use mathlib.Core.Bool.{true, false, _||_}
+use mathlib.Core.List.{List}
+use Prim.Native.Nat.{ℕ, suc, _+_, _*_, _<_}
+use native.Mathlib.Numerals.{add-one}
+use native.Mathlib.Omega.{arith}
+use lib.Dec.{eqb}
+use lib.ListN.{getD}
+use Rattle.fabric.specs.Labels.{size, bit}
+use Rattle.paths.specs.declared.Front.{Front}
+use Rattle.paths.specs.declared.Stops.{Stops}
+use Rattle.paths.specs.Clear.{Rule}
+use Rattle.paths.specs.Frontier.{high, lesser, advanced, stopsFrom}
+use Rattle.paths.proofs.Pivots.{highRight}
+use Rattle.paths.proofs.Frontier.{Holds, Found, looks-from, lesser-reached, advanced-holds, none-reached, some-reached, found-first, stage-named, none-clear}
+use Rattle.router.specs.declared.Found as answer
+use Rattle.router.specs.Entries.{Routed}
+use Rattle.router.specs.Marks.{Highs, Marked, unmarked}
+
+module _ (n : ℕ) (stops : Rule) (s d : ℕ) (source : s < size n) where
+  -- one stage on, by what the arrays hold
+  pub front-on : (hs : List ℕ) (marks : List Stops) → Highs n s d hs → Marked n stops d hs marks → (i b t : ℕ) → i < n
+      → b ≡ bit i (getD hs i 0) → t ≡ bit i d → (front next : Front) → next ≡ advanced (eqb b t) t (getD marks i unmarked) i front
+      → Holds n stops s d i front → Holds n stops s d (i + 1) next
+  front-on hs marks highs marked i b t h eb et front next e held =
+      let eh = highs i h in
+      let right : highRight n s d i ≡ eqb b t = sym (ap₂ eqb (eb ∙ ap (bit i) eh) et) in
+      let look : getD marks i unmarked ≡ stopsFrom stops n i (high n s d i) (eqb b t) =
+      marked i h ∙ ap₂ (stopsFrom stops n i) eh (sym (ap₂ eqb eb et)) in
+      let w = advanced-holds n stops s d source i h (eqb b t) right (getD marks i unmarked) (looks-from n stops s d i (eqb b t) (getD marks i unmarked) look) front held in
+      subst (λ (k : ℕ). Holds n stops s d k next) (sym (add-one i))
+      (subst (Holds n stops s d (suc i)) (sym (e ∙ ap (λ (x : ℕ). advanced (eqb b t) x (getD marks i unmarked) i front) et)) w)
+
+  -- a frontier that is reached no more
+  pub none-ahead : (i : ℕ) → i < n → (front next : Front) → Holds n stops s d i front → (front .high .reached || front .low .reached) ≡ true
+      → Holds n stops s d (i + 1) next → (next .high .reached || next .low .reached) ≡ false → Routed n stops s d (answer.Found.None i)
+  none-ahead i h front next held alive held' gone =
+      let w = some-reached n stops s d source i (omega arith) front held alive in
+      let empty = none-reached n stops s d source (suc i) h next (subst (λ (k : ℕ). Holds n stops s d k next) (add-one i) held') gone in
+      (none-clear n stops s d source i h empty, stage-named n stops s d source i h (w .0) (w .1) empty)
+
+  -- a frontier that reaches the last column
+  pub found-ahead : d < size n → (i tag : ℕ) → i ≡ n → (front : Front) → Holds n stops s d i front → (front .high .reached || front .low .reached) ≡ true
+      → tag ≡ d + size n * lesser (front .high) (front .low) .states → Routed n stops s d (answer.Found.Tag tag)
+  found-ahead hd i tag e front held alive et =
+      let w = found-first n stops s d source hd front (subst (λ (k : ℕ). Holds n stops s d k front) e held) (lesser-reached (front .high) (front .low) alive) in
+      (w .steps, w .first, et ∙ w .normal)
