@@ -25,7 +25,7 @@ returns-3 : tie.Need-returns-3
 returns-3 c = search (route-refuses, refusing, one-of, other-of) depth 10
 
 ahead-requires : tie.Need-ahead-requires
-ahead-requires c κs = search (needs, few-by, fits-by, is-below)
+ahead-requires c κs = (search fits-by, search few-by, search is-below, search is-below)
 
 returns-4 : tie.Need-returns-4
 returns-4 c = search (route-passes, accepting, neither-of) depth 10
