@@ -8,14 +8,20 @@ use native.Mathlib.Decide.{ℕ-discrete, decLe}
 use native.Mathlib.Omega.{arith}
 use borrow.Author.Tests.{eq-eqb, ne-eqb, le-leb, lt-leb, lt-ltb, le-ltb}
 use lib.Dec.{eqb, leb}
-use lib.ListN.{length, drop, getD, set, replicate, length-append, length-take, length-drop, take-append-drop}
+use lib.ListN.{length, take, drop, getD, set, replicate, length-append, length-take, length-drop, take-append-drop}
 use lib.Seq.{paste, length-take-le, getD-take}
 use Rattle.book.specs.declared.Notice.{Notice}
 use Rattle.book.specs.declared.Book.{Book}
 use Rattle.book.specs.Standing.{filler, standing, bookOf, stands, insert, without, Filed, Sound}
-use Rattle.book.specs.Places.{placeOf, insertAt, removeAt}
+use Rattle.book.specs.Places.{placeOf}
 use Rattle.book.proofs.Arrays.{opens-gap, closes-gap}
 use Rattle.book.proofs.Filings.{above-stands-not}
+
+abbrev insertAt : ℕ → Notice → List Notice → List Notice
+insertAt p x l = take p l ++ x ∷ drop p l
+
+abbrev removeAt : ℕ → List Notice → List Notice
+removeAt p l = take p l ++ drop (suc p) l
 
 module _ (k : ℕ) where
   pub place-le : (l : List Notice) → placeOf k l ≤ length l

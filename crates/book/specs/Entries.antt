@@ -88,7 +88,7 @@ linkChecks b i j c = (16 when unsound b) ∷ (4 when (i notBelow b .n || j notBe
 pub record Tests (b : Book) (i j c : ℕ) (r : Link) : Type 0 where
   pub says : linkSays r ≡ checked (linkChecks b i j c) refused (Reply.accepted (cond (eqb (stopper (b .n) (standing b) i j c) 0) 0 1 ∷ []))
 
--- "listing: 16, 13."
+-- "listing: 16, 13.": too short is shorter than the rows, which `length-rows` says are ten bytes each
 abbrev pub listingChecks : Book → List ℕ → List Check
 listingChecks b memory = (16 when unsound b) ∷ (13 when length memory below length (rows (standing b))) ∷ []
 

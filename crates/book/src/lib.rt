@@ -2,9 +2,9 @@
 use table::Refusal;
 ghost use mathlib.Core.Path.{_≡_};
 ghost use mathlib.Core.Bool.{false};
-ghost use Prim.Native.Nat.{ℕ, _+_, _-_, _≤_, _<_};
+ghost use Prim.Native.Nat.{_≤_, _<_};
 ghost use Rattle.fabric.specs.Labels.{size};
-ghost use Rattle.book.specs.Standing.{standing, bookOf, stands, stopper, unsound, Sound};
+ghost use Rattle.book.specs.Standing.{standing, stopper, unsound, Sound};
 ghost use Rattle.book.specs.Entries.{Opens, Files, Withdraws, Tests, Lists};
 
 mod targets; // targets.rt: which links a target names, and when filing refuses it

@@ -4,13 +4,13 @@ use super::Notice;
 use super::Target;
 use super::targets;
 ghost use mathlib.Core.Path.{_≡_};
-ghost use mathlib.Core.Bool.{true, false};
+ghost use mathlib.Core.Bool.{true};
 ghost use mathlib.Core.List.{[]};
-ghost use Prim.Native.Nat.{ℕ, _+_, _-_, _≤_, _<_};
-ghost use lib.ListN.{take, drop, getD, replicate};
+ghost use Prim.Native.Nat.{_+_, _≤_, _<_};
+ghost use lib.ListN.{drop};
 ghost use lib.Seq.{paste};
 ghost use Rattle.book.specs.Standing.{filler, standing, unused, bookOf, stands, insert, without, isFiller, littered, misfiled, Sound};
-ghost use Rattle.book.specs.Places.{placeOf, insertAt, removeAt};
+ghost use Rattle.book.specs.Places.{placeOf};
 
 // What an unused place holds.
 fn filler() -> Notice

@@ -3,7 +3,7 @@ use super::Notice;
 use super::Target;
 ghost use mathlib.Core.Path.{_≡_};
 ghost use mathlib.Core.Bool.{_&&_, _||_};
-ghost use Prim.Native.Nat.{ℕ, _≤_, _<_};
+ghost use Prim.Native.Nat.{_≤_, _<_};
 ghost use Rattle.fabric.specs.Labels.{size};
 ghost use Rattle.book.specs.Targets.{setHas, names, outsideFabric, badSet, badField, tooWide, unfit};
 

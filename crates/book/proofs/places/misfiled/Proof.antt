@@ -4,7 +4,7 @@ use Prim.Native.Nat.{_≤_, _-_}
 use native.Mathlib.Omega.{arith}
 use borrow.Author.Tests.{le-leb, lt-leb}
 use borrow.Author.Needs.{needs}
-use lib.ListN.{length, take, drop}
+use lib.ListN.{length, take, drop, getD}
 use Rattle.book.specs.Standing.{filler, misfiled}
 use Rattle.book.proofs.Arrays.{length-mapped, next-of, none-left-of}
 use Rattle.book.proofs.places.misfiled.Statement.{statement}
@@ -33,7 +33,7 @@ unfolding misfiled
 returns c =
     let a = c .before .before .before .before .before .args in
     let v = c .before .before .before .before .loop in
-    rw (v .inv .2, next-of (a .t1 .count) (a .t1 .notices) filler (v .i) (v .inv .1) (c .before .before .before .loop-test .taken), le-leb _ _ (c .if1 .taken))
+    rw (v .inv .2, next-of (a .t1 .count) (a .t1 .notices) filler (v .i) (v .inv .1) (c .before .before .before .loop-test .taken), le-leb (getD (a .t1 .notices) (v .i) filler .number) (v .last) (omega arith))
 
 unfit-requires : tie.Need-unfit-requires Inv-loop μ-loop
 unfit-requires c κs = search needs
@@ -43,7 +43,7 @@ unfolding misfiled
 returns-2 c =
     let a = c .before .before .before .before .before .before .before .args in
     let v = c .before .before .before .before .before .before .loop in
-    rw (v .inv .2, next-of (a .t1 .count) (a .t1 .notices) filler (v .i) (v .inv .1) (c .before .before .before .before .before .loop-test .taken), lt-leb _ _ (c .before .before .if1 .left), ← c .before .unfit .ensures, c .if2 .taken)
+    rw (v .inv .2, next-of (a .t1 .count) (a .t1 .notices) filler (v .i) (v .inv .1) (c .before .before .before .before .before .loop-test .taken), lt-leb (getD (a .t1 .notices) (v .i) filler .number) (v .last) (omega arith), ← c .before .unfit .ensures, c .if2 .taken)
 
 add-i : tie.Need-add-i Inv-loop μ-loop
 add-i c = search needs
@@ -58,7 +58,7 @@ loop-again c =
     let v = c .before .before .before .before .before .before .loop in (
       omega arith,
       v .inv .1,
-      v .inv .2 ∙ rw (next-of (a .t1 .count) (a .t1 .notices) filler (v .i) (v .inv .1) (c .before .before .before .before .before .loop-test .taken), lt-leb _ _ (c .before .before .if1 .left), ← c .before .unfit .ensures, c .if2 .left),
+      v .inv .2 ∙ rw (next-of (a .t1 .count) (a .t1 .notices) filler (v .i) (v .inv .1) (c .before .before .before .before .before .loop-test .taken), lt-leb (getD (a .t1 .notices) (v .i) filler .number) (v .last) (omega arith), ← c .before .unfit .ensures, c .if2 .left),
     )
 
 returns-3 : tie.Need-returns-3 Inv-loop μ-loop
