@@ -1,17 +1,17 @@
 -- Walks through the stages, for every n: the low bits settle, and a walk ends at d exactly when it agrees with d in one bit
 -- more after each stage.
-use mathlib.Core.Path.{_≡_, refl, sym, ap, subst, _∙_}
+use mathlib.Core.Path.{_≡_, refl, sym, ap, ap₂, subst, _∙_}
 use mathlib.Core.List.{List, [], _∷_, _++_}
-use Prim.Native.Nat.{ℕ, suc, _+_, _^_, _%_, _≤_, _<_}
+use Prim.Native.Nat.{ℕ, zero, suc, _+_, _^_, _%_, _≤_, _<_}
 use native.Mathlib.Nat.{add-zero}
 use native.Mathlib.Omega.{arith}
 use lib.ListN.{length, take, drop, getD, length-drop, take-append-drop}
 use lib.Seq.{length-take-le, take-length, take-suc}
 use Rattle.fabric.specs.Labels.{size, Agree}
 use Rattle.fabric.specs.Links.{lands}
-use Rattle.fabric.specs.Walks.{walked, switchAt}
+use Rattle.fabric.specs.Walks.{Path, walked, switchAt}
 use Rattle.fabric.proofs.Bits.{agree-less, agree-below}
-use Rattle.fabric.proofs.Links.{lands-lt, low-bits-stay}
+use Rattle.fabric.proofs.Links.{lands-lt, low-bits-stay, toward-straight}
 
 module _ (n : ℕ) where
   pub walked-lt : (i j : ℕ) (cs : List ℕ) → j < size n → walked n i j cs < size n
@@ -63,3 +63,23 @@ module _ (n : ℕ) where
   agrees-arrives s d cs l hs hd a =
       let e : take n cs ≡ cs = ap (λ (m : ℕ). take m cs) (sym l) ∙ take-length cs in
       agree-below n (walked n 0 s cs) d (walked-lt 0 s cs hs) hd (subst (λ (x : List ℕ). Agree n (walked n 0 s x) d) e (a n (omega arith)))
+
+  -- "For s = d the straight path is the only one."
+  straight-step : (s : ℕ) (cs : List ℕ) → Path n s s cs → (k : ℕ) → k < n → switchAt n s cs k ≡ s → getD cs k 0 ≡ 0
+  straight-step s cs p k h here =
+      let l = p .steps .stages in
+      let onward : Agree (suc k) (lands n k (getD cs k 0) s) s =
+      ap (λ (x : ℕ). x % 2 ^ suc k) (sym (switch-next s cs k (omega arith) ∙ ap (lands n k (getD cs k 0)) here))
+      ∙ arrives-agrees s s cs (p .steps .stages) (p .arrives) (suc k) h in
+      toward-straight n k h (getD cs k 0) s s onward refl
+
+  straight-so-far : (s : ℕ) (cs : List ℕ) → Path n s s cs → (k : ℕ) → k ≤ n → switchAt n s cs k ≡ s
+  unfolding walked
+  straight-so-far s cs p zero h = refl
+  straight-so-far s cs p (suc k) h =
+      let l = p .steps .stages in
+      let here = straight-so-far s cs p k (omega arith) in
+      switch-next s cs k (omega arith) ∙ ap₂ (λ (c j : ℕ). lands n k c j) (straight-step s cs p k h here) here
+
+  pub straight-only : (s : ℕ) (cs : List ℕ) → Path n s s cs → (k : ℕ) → k < n → getD cs k 0 ≡ 0
+  straight-only s cs p k h = straight-step s cs p k h (straight-so-far s cs p k (omega arith))

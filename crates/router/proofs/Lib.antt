@@ -2,3 +2,4 @@ pub mod Marking
 pub mod Promises
 pub mod Walking
 pub mod Routing
+pub mod Entries

@@ -1,0 +1,180 @@
+-- Theorems over walk and route: what their answers say, together and apart, and that no promise leaves a second answer.
+use mathlib.Core.Path.{_≡_, refl, sym, ap, ap₂, subst, _∙_}
+use mathlib.Core.Bool.{Bool, false, _||_}
+use mathlib.Core.List.{List, [], _∷_}
+use mathlib.Core.Logic.{⊎-elim}
+use Prim.Native.Nat.{ℕ, suc, _<_}
+use native.Mathlib.Decide.{decLt}
+use native.Mathlib.Omega.{arith}
+use borrow.Author.Tests.{leb-false, lt-leb}
+use lib.ListN.{getD}
+use Rattle.table.specs.Numbers.{numberOf}
+use Rattle.table.specs.Reply.{refused}
+use Rattle.table.specs.Checks.{Given, Passed, Passed.none, Passed.passes, _when_, _notBelow_}
+use Rattle.table.proofs.Numbers.{number-tells, below-seventeen}
+use Rattle.table.proofs.Checks.{given-or-passed, passed-nth, neither}
+use Rattle.fabric.specs.Labels.{size}
+use Rattle.fabric.specs.Walks.{switchAt}
+use Rattle.tags.specs.Tags.{tags, stepsOf, normalTag}
+use Rattle.tags.proofs.NormalTags.{steps-come-back, normal-is-tag}
+use Rattle.tags.proofs.Steps.{steps-of-tag, tag-arrives}
+use Rattle.book.specs.declared.Book.{Book}
+use Rattle.book.specs.Standing.{unsound}
+use Rattle.paths.specs.Clear.{Rule, Clear, ClearPath, Onward}
+use Rattle.paths.proofs.Order.{first-once}
+use Rattle.paths.proofs.Walks.{stage-once}
+use Rattle.router.specs.declared.Ended.{Ended}
+use Rattle.router.specs.declared.Found.{Found}
+use Rattle.router.specs.Entries.{stopsOf, walkSays, routeSays, walkChecks, FirstStopped, Walked, Walks, routeChecks, Routed, Routes}
+
+-- answers that say one number alone are one answer
+pub ended-tells : (a b : Ended) (k : ℕ) → walkSays a ≡ refused k → walkSays b ≡ refused k → a ≡ b
+ended-tells Ended.Clear b k e f = let z : _≡_ {A = ℕ} 0 1 = cc in absurd (omega arith)
+ended-tells (Ended.Stopped i) b k e f = let z : _≡_ {A = ℕ} 0 1 = cc in absurd (omega arith)
+ended-tells Ended.Astray Ended.Clear k e f = let z : _≡_ {A = ℕ} 0 1 = cc in absurd (omega arith)
+ended-tells Ended.Astray (Ended.Stopped j) k e f = let z : _≡_ {A = ℕ} 0 1 = cc in absurd (omega arith)
+ended-tells Ended.Astray Ended.Astray k e f = refl
+ended-tells Ended.Astray (Ended.Refused r) k e f = let z : 17 ≡ numberOf r = cc in (let l = below-seventeen r in absurd (omega arith))
+ended-tells (Ended.Refused q) Ended.Clear k e f = let z : _≡_ {A = ℕ} 0 1 = cc in absurd (omega arith)
+ended-tells (Ended.Refused q) (Ended.Stopped j) k e f = let z : _≡_ {A = ℕ} 0 1 = cc in absurd (omega arith)
+ended-tells (Ended.Refused q) Ended.Astray k e f = let z : 17 ≡ numberOf q = cc in (let l = below-seventeen q in absurd (omega arith))
+ended-tells (Ended.Refused q) (Ended.Refused r) k e f = let z : numberOf q ≡ numberOf r = cc in ap Ended.Refused (number-tells q r z)
+
+pub found-tells : (a b : Found) (k : ℕ) → routeSays a ≡ refused k → routeSays b ≡ refused k → a ≡ b
+found-tells (Found.Tag t) b k e f = let z : _≡_ {A = ℕ} 0 1 = cc in absurd (omega arith)
+found-tells (Found.None i) b k e f = let z : _≡_ {A = ℕ} 0 1 = cc in absurd (omega arith)
+found-tells (Found.Refused q) (Found.Tag t) k e f = let z : _≡_ {A = ℕ} 0 1 = cc in absurd (omega arith)
+found-tells (Found.Refused q) (Found.None j) k e f = let z : _≡_ {A = ℕ} 0 1 = cc in absurd (omega arith)
+found-tells (Found.Refused q) (Found.Refused r) k e f = let z : numberOf q ≡ numberOf r = cc in ap Found.Refused (number-tells q r z)
+
+-- over one rule, a walk has one answer, and a route has one
+module _ (n : ℕ) (stops : Rule) where
+  stopped-once : (s : ℕ) (cs : List ℕ) (i j : ℕ) → FirstStopped n stops s cs i → FirstStopped n stops s cs j → i ≡ j
+  stopped-once s cs i j p q = go (decLt i j) (decLt j i)
+    where
+      go : Dec (i < j) → Dec (j < i) → i ≡ j
+      go (yes h) d = absurd (p .stopped (q .before i h))
+      go (no h) (yes g) = absurd (q .stopped (p .before j g))
+      go (no h) (no g) = omega arith
+
+  not-both : (s tag i : ℕ) → FirstStopped n stops s (stepsOf n s tag) i → Clear n stops s (stepsOf n s tag) → ⊥
+  not-both s tag i p clear = let l = steps-of-tag n s tag .stages in let h = p .stage in p .stopped (clear i (omega arith))
+
+  pub walked-once : (s tag : ℕ) (a b : Ended) → Walked n stops s tag a → Walked n stops s tag b → a ≡ b
+  walked-once s tag (Ended.Stopped i) (Ended.Stopped j) p q = ap Ended.Stopped (stopped-once s (stepsOf n s tag) i j p q)
+  walked-once s tag (Ended.Stopped i) Ended.Clear p q = absurd (not-both s tag i p (q .0))
+  walked-once s tag (Ended.Stopped i) Ended.Astray p q = absurd (not-both s tag i p (q .0))
+  walked-once s tag (Ended.Stopped i) (Ended.Refused r) p q = absurd q
+  walked-once s tag Ended.Clear (Ended.Stopped j) p q = absurd (not-both s tag j q (p .0))
+  walked-once s tag Ended.Clear Ended.Clear p q = refl
+  walked-once s tag Ended.Clear Ended.Astray p q = absurd (q .1 (p .1))
+  walked-once s tag Ended.Clear (Ended.Refused r) p q = absurd q
+  walked-once s tag Ended.Astray (Ended.Stopped j) p q = absurd (not-both s tag j q (p .0))
+  walked-once s tag Ended.Astray Ended.Clear p q = absurd (p .1 (q .1))
+  walked-once s tag Ended.Astray Ended.Astray p q = refl
+  walked-once s tag Ended.Astray (Ended.Refused r) p q = absurd q
+  walked-once s tag (Ended.Refused r) b p q = absurd p
+
+  pub routed-once : (s d : ℕ) (a b : Found) → Routed n stops s d a → Routed n stops s d b → a ≡ b
+  routed-once s d (Found.Tag t) (Found.Tag u) p q =
+      ap Found.Tag (p .2 ∙ ap (normalTag n s) (first-once n stops s d (p .0) (q .0) (p .1) (q .1)) ∙ sym (q .2))
+  routed-once s d (Found.Tag t) (Found.None j) p q = absurd (q .0 (p .0) (p .1 .clearPath))
+  routed-once s d (Found.Tag t) (Found.Refused r) p q = absurd q
+  routed-once s d (Found.None i) (Found.Tag u) p q = absurd (p .0 (q .0) (q .1 .clearPath))
+  routed-once s d (Found.None i) (Found.None j) p q = ap Found.None (stage-once n stops s d i j (p .1) (q .1))
+  routed-once s d (Found.None i) (Found.Refused r) p q = absurd q
+  routed-once s d (Found.Refused r) b p q = absurd p
+
+-- no second answer
+pub walk-once : (b : Book) (s tag : ℕ) (x y : Ended) → Walks b s tag x → Walks b s tag y → x ≡ y
+walk-once b s tag x y p q =
+    ⊎-elim
+    (λ g. ended-tells x y (g .0) (p .refuses (g .0) (g .1)) (q .refuses (g .0) (g .1)))
+    (λ w. walked-once (b .n) (stopsOf b) s tag x y (p .walks w) (q .walks w))
+    (given-or-passed (walkChecks b s tag))
+
+pub route-once : (b : Book) (s d : ℕ) (x y : Found) → Routes b s d x → Routes b s d y → x ≡ y
+route-once b s d x y p q =
+    ⊎-elim
+    (λ g. found-tells x y (g .0) (p .refuses (g .0) (g .1)) (q .refuses (g .0) (g .1)))
+    (λ w. routed-once (b .n) (stopsOf b) s d x y (p .routes w) (q .routes w))
+    (given-or-passed (routeChecks b s d))
+
+-- what a route's answer says: a tag exactly when a clear path exists, and "no clear path" exactly when none does
+module _ (b : Book) (s d : ℕ) (passed : Passed (routeChecks b s d)) (a : Found) (answers : Routes b s d a) where
+  pub tag-when-some : (cs : List ℕ) → ClearPath (b .n) (stopsOf b) s d cs → (t : ℕ) × (a ≡ Found.Tag t)
+  tag-when-some cs path = go a (answers .routes passed)
+    where
+      go : (x : Found) → Routed (b .n) (stopsOf b) s d x → (t : ℕ) × (x ≡ Found.Tag t)
+      go (Found.Tag t) w = (t, refl)
+      go (Found.None i) w = absurd (w .0 cs path)
+      go (Found.Refused r) w = absurd w
+
+  pub none-when-none : ((cs : List ℕ) → ClearPath (b .n) (stopsOf b) s d cs → ⊥) → (i : ℕ) × (a ≡ Found.None i)
+  none-when-none empty = go a (answers .routes passed)
+    where
+      go : (x : Found) → Routed (b .n) (stopsOf b) s d x → (i : ℕ) × (x ≡ Found.None i)
+      go (Found.Tag t) w = absurd (empty (w .0) (w .1 .clearPath))
+      go (Found.None i) w = (i, refl)
+      go (Found.Refused r) w = absurd w
+
+-- walking the tag that a route answered says clear
+pub route-walks-clear : (b : Book) (s d t : ℕ) → Passed (routeChecks b s d) → Routes b s d (Found.Tag t) → (a : Ended) → Walks b s t a → a ≡ Ended.Clear
+route-walks-clear b s d t passed answers a walks =
+    let n : ℕ = b .n in
+    let w = answers .routes passed in
+    let cs : List ℕ = w .0 in
+    let o = neither (s notBelow size n) (d notBelow size n) (passed-nth (routeChecks b s d) 1 passed) in
+    let label : s < size n = leb-false (size n) s (o .0) in
+    let steps = w .1 .clearPath .path .steps in
+    let back : stepsOf n s t ≡ cs = ap (stepsOf n s) (w .2) ∙ steps-come-back n s label cs steps in
+    let small : t < tags n = subst (λ (x : ℕ). x < tags n) (sym (w .2)) (normal-is-tag n s label cs (steps .stages)) in
+    let ok : Passed (walkChecks b s t) = passes (passed-nth (routeChecks b s d) 0 passed) (passes (o .0) (passes (lt-leb (tags n) t small) none)) in
+    let clear : Walked n (stopsOf b) s t Ended.Clear = (subst (Clear n (stopsOf b) s) (sym back) (w .1 .clearPath .clear), tag-arrives n s t label) in
+    walked-once n (stopsOf b) s t a Ended.Clear (walks .walks ok) clear
+
+-- a route depends on a book only through which links are stopped
+abbrev pub Alike : Rule → Rule → Type 0
+Alike f g = (i j c : ℕ) → (f i j c ≡ 0 → g i j c ≡ 0) × (g i j c ≡ 0 → f i j c ≡ 0)
+
+module _ (n : ℕ) (s d : ℕ) where
+  clear-alike : (f g : Rule) → Alike f g → (cs : List ℕ) → ClearPath n f s d cs → ClearPath n g s d cs
+  clear-alike f g same cs p = record { path = p .path; clear = λ k h. same k (switchAt n s cs k) (getD cs k 0) .0 (p .clear k h) }
+
+  onward-alike : (f g : Rule) → Alike f g → (k : ℕ) (cs : List ℕ) → Onward n f s d k cs → Onward n g s d k cs
+  onward-alike f g same k cs w =
+      record { links = w .links; codes = w .codes; clear = λ i h. same i (switchAt n s cs i) (getD cs i 0) .0 (w .clear i h); agrees = w .agrees }
+
+  back : (f g : Rule) → Alike f g → Alike g f
+  back f g same i j c = (same i j c .1, same i j c .0)
+
+  pub routed-alike : (f g : Rule) → Alike f g → (a : Found) → Routed n f s d a → Routed n g s d a
+  routed-alike f g same (Found.Tag t) w = (
+    w .0,
+    record {
+      clearPath = clear-alike f g same (w .0) (w .1 .clearPath);
+      first = λ ds q e. w .1 .first ds (clear-alike g f (back f g same) ds q) e;
+    },
+    w .2,
+  )
+  routed-alike f g same (Found.None i) w = (
+    λ cs q. w .0 cs (clear-alike g f (back f g same) cs q),
+    record {
+      none = λ cs q. w .1 .none cs (onward-alike g f (back f g same) (suc i) cs q);
+      least = λ k gone. w .1 .least k (λ cs q. gone cs (onward-alike f g same (suc k) cs q));
+    },
+  )
+  routed-alike f g same (Found.Refused r) w = absurd w
+
+pub same-stops-same-route : (b c : Book) (s d : ℕ) (x y : Found) → unsound b ≡ false → unsound c ≡ false → b .n ≡ c .n → Alike (stopsOf b) (stopsOf c)
+    → Routes b s d x → Routes c s d y → x ≡ y
+same-stops-same-route b c s d x y sb sc size-same same p q =
+    ⊎-elim
+    (λ g. found-tells x y (g .0) (p .refuses (g .0) (g .1)) (q .refuses (g .0) (subst (Given (g .0)) checks (g .1))))
+    (λ w.
+    let r : Routed (c .n) (stopsOf b) s d x = subst (λ (m : ℕ). Routed m (stopsOf b) s d x) size-same (p .routes w) in
+    routed-once (c .n) (stopsOf c) s d x y (routed-alike (c .n) s d (stopsOf b) (stopsOf c) same x r) (q .routes (subst Passed checks w)))
+    (given-or-passed (routeChecks b s d))
+  where
+    checks : routeChecks b s d ≡ routeChecks c s d
+    checks = ap₂ (λ (u : Bool) (m : ℕ). (16 when u) ∷ (10 when (s notBelow size m || d notBelow size m)) ∷ []) (sb ∙ sym sc) size-same
