@@ -1,0 +1,135 @@
+// Runs routes and walks on document 01's examples and on bad input, through open, file, route and walk, and prints a line
+// for each call.
+use book::Book;
+use book::Notice;
+use book::Target;
+use lines::number;
+use lines::refused;
+use lines::word;
+use router::Ended;
+use router::Found;
+
+fn main() {
+    one_to_six();
+    eight_to_twelve();
+    bad_input();
+    damaged();
+    walks();
+}
+
+// A notice for links of one switch.
+fn links(number: u16, stage: u8, switch: u16, set: u8) -> Notice {
+    Notice {
+        number,
+        target: Target::Links { stage, switch, set },
+    }
+}
+
+fn empty(n: u8) -> Book {
+    let kept = Book::open(n);
+    kept.book
+}
+
+fn with(book: Book, notice: Notice) -> Book {
+    let kept = book.file(notice);
+    kept.book
+}
+
+// Examples 1 to 6: n = 3, from 1 to 0.
+fn one_to_six() {
+    let nothing = empty(3);
+    route(1, nothing, 1, 0);
+    let one = with(nothing, links(1, 0, 1, 4));
+    route(2, one, 1, 0);
+    let two = with(one, links(2, 1, 2, 4));
+    route(3, two, 1, 0);
+    let three = with(two, links(3, 2, 4, 4));
+    route(4, three, 1, 0);
+    let four = with(three, links(4, 2, 4, 2));
+    route(5, four, 1, 0);
+    let straight = with(nothing, links(1, 1, 0, 1));
+    route(6, straight, 1, 0);
+}
+
+// Examples 8 to 12.
+fn eight_to_twelve() {
+    route(8, with(empty(3), links(1, 1, 5, 1)), 5, 5);
+    let small = empty(1);
+    route(9, small, 0, 1);
+    let plus = with(small, links(1, 0, 0, 2));
+    route(9, plus, 0, 1);
+    route(10, with(plus, links(2, 0, 0, 4)), 0, 1);
+    route(11, with(empty(2), links(1, 1, 1, 1)), 0, 1);
+    route(12, empty(12), 0, 4095);
+}
+
+// Source or destination N or 65,535: 10.
+fn bad_input() {
+    let book = empty(3);
+    route(0, book, 8, 0);
+    route(0, book, 0, 8);
+    route(0, book, 65535, 65535);
+    walk(book, 8, 64);
+    walk(book, 0, 64);
+    walk(book, 0, 4294967295);
+}
+
+// 16 before anything else is looked at.
+fn damaged() {
+    let none = empty(13);
+    route(0, none, 65535, 65535);
+    walk(none, 65535, 4294967295);
+    let book = empty(3);
+    let notices = book.notices;
+    let full = Book {
+        n: 3,
+        count: 49,
+        notices,
+    };
+    route(0, full, 65535, 0);
+    walk(full, 65535, 0);
+}
+
+// The first stopped link of a tag's path, and a path that is clear.
+fn walks() {
+    let book = with(empty(3), links(1, 1, 2, 4));
+    walk(book, 1, 0);
+    walk(book, 1, 8);
+    walk(book, 1, 24);
+    walk(book, 1, 40);
+}
+
+fn route(example: u64, book: Book, source: u16, destination: u16) {
+    word(b"ROUTE");
+    number(example);
+    number(source as u64);
+    number(destination as u64);
+    match router::route(book, source, destination) {
+        Found::Tag(tag) => {
+            word(b" TAG");
+            number(tag as u64);
+        }
+        Found::None(stage) => {
+            word(b" NONE");
+            number(stage as u64);
+        }
+        Found::Refused(r) => refused(r),
+    }
+    word(b"\n");
+}
+
+fn walk(book: Book, source: u16, tag: u32) {
+    word(b"WALK");
+    number(source as u64);
+    number(tag as u64);
+    match router::walk(book, source, tag) {
+        Ended::Clear => word(b" CLEAR"),
+        Ended::Stopped(stage) => {
+            word(b" STOPPED");
+            number(stage as u64);
+        }
+        Ended::Astray => word(b" ASTRAY"),
+        Ended::Refused(r) => refused(r),
+    }
+    word(b"\n");
+}
