@@ -1,2 +1,4 @@
 pub mod Found
 pub mod Examples
+pub mod DemandThree
+pub mod Clearness

@@ -1,0 +1,50 @@
+-- Demand 3 over everything: after any run of filings and withdrawals from an empty book, refused ones among them, every
+-- answer from then on, of every entry over a book, equals that of a new book of that size into which only the notices
+-- accepted and not withdrawn since were filed, in any order.
+use mathlib.Core.Path.{_≡_, subst}
+use mathlib.Core.List.{List, map, List·Memᴰ}
+use mathlib.Core.Logic.{_↔_}
+use Prim.Native.Nat.{ℕ}
+use Rattle.book.specs.declared.Notice.{Notice}
+use Rattle.book.specs.declared.Book.{Book}
+use Rattle.book.specs.declared.Kept.{Kept}
+use Rattle.book.specs.declared.Link.{Link}
+use Rattle.book.specs.declared.Listing.{Listing}
+use Rattle.book.specs.Entries.{opened, Files, Withdraws, Tests, Lists}
+use Rattle.book.specs.Runs.{Change, run, StandsSince, Distinct}
+use Rattle.book.proofs.Since.{same-book}
+use Rattle.book.proofs.Once.{files-once, withdraws-once, tests-once, lists-once}
+use Rattle.router.specs.declared.Ended.{Ended}
+use Rattle.router.specs.declared.Found.{Found}
+use Rattle.router.specs.Entries.{Walks, Routes}
+use Rattle.router.proofs.Entries.{walk-once, route-once}
+
+module _ (n : ℕ) (changes : List Change) (l : List Notice) (apart : Distinct l)
+    (these : (x : Notice) → List·Memᴰ x l ↔ StandsSince (opened n) changes x) where
+  -- the book that the run made, and the new one
+  abbrev ran : Book
+  ran = run changes (opened n)
+
+  abbrev new : Book
+  new = run (map Change.file l) (opened n)
+
+  same : new ≡ ran
+  same = same-book n changes l apart these .0
+
+  pub files-alike : (x : Notice) (q r : Kept) → Files ran x q → Files new x r → q ≡ r
+  files-alike x q r p s = files-once ran x q r p (subst (λ (b : Book). Files b x r) same s)
+
+  pub withdraws-alike : (k : ℕ) (q r : Kept) → Withdraws ran k q → Withdraws new k r → q ≡ r
+  withdraws-alike k q r p s = withdraws-once ran k q r p (subst (λ (b : Book). Withdraws b k r) same s)
+
+  pub tests-alike : (i j c : ℕ) (q r : Link) → Tests ran i j c q → Tests new i j c r → q ≡ r
+  tests-alike i j c q r p s = tests-once ran i j c q r p (subst (λ (b : Book). Tests b i j c r) same s)
+
+  pub lists-alike : (lent left₁ left₂ : List ℕ) (q r : Listing) → Lists ran lent left₁ q → Lists new lent left₂ r → (q ≡ r) × (left₁ ≡ left₂)
+  lists-alike lent left₁ left₂ q r p s = lists-once ran lent left₁ left₂ q r p (subst (λ (b : Book). Lists b lent left₂ r) same s)
+
+  pub walks-alike : (s tag : ℕ) (q r : Ended) → Walks ran s tag q → Walks new s tag r → q ≡ r
+  walks-alike s tag q r p w = walk-once ran s tag q r p (subst (λ (b : Book). Walks b s tag r) same w)
+
+  pub routes-alike : (s d : ℕ) (q r : Found) → Routes ran s d q → Routes new s d r → q ≡ r
+  routes-alike s d q r p w = route-once ran s d q r p (subst (λ (b : Book). Routes b s d r) same w)
