@@ -1,5 +1,5 @@
 -- Laws of the format: fields and bytes are each other read backward, and bytes without a layout fault are an action's.
-use mathlib.Core.Path.{_≡_, refl, sym, ap, ap₂, _∙_}
+use mathlib.Core.Path.{_≡_, refl, sym, ap, _∙_}
 use mathlib.Core.Bool.{Bool, true, false, cond, not, _||_, true≢false}
 use mathlib.Core.List.{List, [], _∷_}
 use Prim.Native.Nat.{ℕ, zero, suc, _+_, _*_, _/_, _%_, _≤_, _<_}
@@ -9,9 +9,9 @@ use lib.Dec.{eqb}
 use lib.ListN.{length, drop, getD, drop-of-length-le}
 use lib.Seq.{drop-cons}
 use Rattle.table.proofs.Checks.{neither}
-use Rattle.book.specs.Layout.{actionBytes, filing}
+use Rattle.book.specs.Layout.{actionBytes}
 use Rattle.sheet.specs.declared.Fields.{Fields}
-use Rattle.sheet.specs.Format.{word, fieldBytes, fieldsOf, someUsed, filingFault, withdrawingFault, routingFault, layoutFault}
+use Rattle.sheet.specs.Format.{fieldBytes, fieldsOf, someUsed, filingFault, withdrawingFault, routingFault, layoutFault}
 
 -- "Numbers are big-endian.": what is read is what was written, and the other way round
 pub word-read : (x : ℕ) → x / 256 * 256 + x % 256 ≡ x
@@ -30,11 +30,11 @@ pub fields-read : (action number kind stage switch mask links : ℕ)
 fields-read action number kind stage switch mask links = rw (word-read number, word-read switch, word-read mask)
 
 -- the elements from place i on, one by one
-abbrev spelled : ℕ → ℕ → List ℕ → List ℕ
+abbrev pub spelled : ℕ → ℕ → List ℕ → List ℕ
 spelled zero i l = []
 spelled (suc n) i l = getD l i 0 ∷ spelled n (suc i) l
 
-spells : (n i : ℕ) (l : List ℕ) → i + n ≡ length l → drop i l ≡ spelled n i l
+pub spells : (n i : ℕ) (l : List ℕ) → i + n ≡ length l → drop i l ≡ spelled n i l
 spells zero i l e = let h : length l ≤ i = omega arith in drop-of-length-le l h
 spells (suc n) i l e = drop-cons l i 0 (omega arith) ∙ ap (λ (r : List ℕ). getD l i 0 ∷ r) (spells n (suc i) l (omega arith))
 

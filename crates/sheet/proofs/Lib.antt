@@ -2,3 +2,5 @@
 pub mod Layouts
 -- how the entries meet their promises
 pub mod Promises
+-- no second answer, and what is written is what is read
+pub mod Sheets

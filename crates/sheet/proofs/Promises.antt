@@ -1,6 +1,6 @@
 -- An entry meets its promise where it refuses by a number that its checks give, and where it passes them and does its work.
 use mathlib.Core.Path.{_≡_, refl, sym, ap, _∙_}
-use mathlib.Core.Bool.{Bool, true, false, not}
+use mathlib.Core.Bool.{true, false, not}
 use mathlib.Core.List.{List, [], _∷_, _++_}
 use mathlib.Core.Logic.{_⊎_, inl, inr}
 use Prim.Native.Nat.{ℕ, _+_, _-_, _≤_, _<_}
@@ -10,14 +10,14 @@ use lib.Dec.{eqb}
 use lib.ListN.{length, take, drop}
 use Rattle.table.specs.declared.Refusal.{Refusal}
 use Rattle.table.specs.Numbers.{numberOf}
-use Rattle.table.specs.Reply.{Reply, Reply.accepted, refused}
+use Rattle.table.specs.Reply.{Reply.accepted, refused}
 use Rattle.table.specs.Checks.{Check, _when_, _below_, _notBelow_, checked, Given, Given.here, Given.later, Passed, Passed.none, Passed.passes}
 use Rattle.table.proofs.Checks.{given-refuses, passed-accepts, given-or-passed, accepted-passed, passed-nth, neither}
 use Rattle.sheet.specs.declared.Header.{Header}
 use Rattle.sheet.specs.declared.There.{There}
 use Rattle.sheet.specs.declared.Action.{Action}
 use Rattle.sheet.specs.Format.{sizeIn, countIn, placeOf}
-use Rattle.sheet.specs.Entries.{headerSays, thereSays, actionSays, headerChecks, ReadsHeader, thereChecks, HasAction, startOf, partOf, actionChecks, ReadsAction}
+use Rattle.sheet.specs.Entries.{actionSays, headerChecks, ReadsHeader, thereChecks, HasAction, startOf, partOf, actionChecks, ReadsAction}
 
 -- an entry that refuses was given its number by its checks
 pub refused-given : (cs : List Check) (v : List ℕ) (k : ℕ) → refused k ≡ checked cs refused (accepted v) → Given k cs

@@ -1,6 +1,5 @@
 -- Document 01, 'The sheet and what is printed': the bytes of a sheet. An action's ten bytes are `actionBytes` of the book,
 -- which lists notices in them.
-use mathlib.Core.Path.{_≡_}
 use mathlib.Core.Bool.{Bool, true, false, cond, not, _||_}
 use mathlib.Core.List.{List, [], _∷_}
 use Prim.Native.Nat.{ℕ, _+_, _*_, _/_, _%_}

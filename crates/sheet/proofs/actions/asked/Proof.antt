@@ -1,28 +1,19 @@
-use Rattle.sheet.proofs.Layouts.{links-bytes, switch-bytes, pattern-bytes, withdrawing-bytes, routing-bytes, filing-right, withdrawing-right, routing-right, links-right, switch-right, pattern-right, fields-written}
-use Rattle.table.specs.Reply.{Reply.accepted}
-use mathlib.Core.Path.{_≡_, sym, ap, _∙_}
-use mathlib.Core.Bool.{true, false, true≢false, or-assoc, or-false}
-use borrow.Author.Tests.{lt-ltb, le-ltb, eq-eqb, ne-eqb}
+use mathlib.Core.Path.{ap}
 use borrow.Author.Needs.{needs}
+use Rattle.table.specs.Reply.{Reply.accepted}
+use Rattle.sheet.proofs.Layouts.{withdrawing-bytes, routing-bytes, filing-right, withdrawing-right, routing-right}
 use Rattle.sheet.proofs.actions.asked.Statement.{statement}
 use Rattle.sheet.proofs.actions.asked.Tie as tie
-use Rattle.sheet.proofs.actions.asked.Reads as reads
-use Rattle.sheet.proofs.actions.asked.Lts as lts
-use Rattle.sheet.proofs.actions.filed.Reads as filed-reads
 
--- src/actions.rt:102:9
 filed-requires : tie.Need-filed-requires
 filed-requires c κs = (c .if1 .taken, filing-right (c .before .before .args .f) (c .if1 .taken) (c .before .before .pre))
 
--- src/actions.rt:102:9
 returns : tie.Need-returns
 returns c = search needs
 
--- src/actions.rt:105:9
 returns-2 : tie.Need-returns-2
 returns-2 c = ap accepted (withdrawing-bytes (c .before .before .before .before .args .f) (c .if2 .taken) (withdrawing-right (c .before .before .before .before .args .f) (c .if2 .taken) (c .before .before .before .before .pre)))
 
--- src/actions.rt:97:1
 returns-3 : tie.Need-returns-3
 returns-3 c = let h = routing-right (c .before .before .before .before .args .f) (c .before .before .if1 .left) (c .if2 .left) (c .before .before .before .before .pre) in ap accepted (routing-bytes (c .before .before .before .before .args .f) (h .0) (h .1))
 

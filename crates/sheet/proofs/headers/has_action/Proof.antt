@@ -1,36 +1,26 @@
-use Rattle.sheet.proofs.Promises.{there-by-header, there-beyond, there-yes}
 use borrow.Author.Needs.{needs}
+use Rattle.sheet.proofs.Promises.{there-by-header, there-beyond, there-yes}
 use Rattle.sheet.proofs.headers.has_action.Statement.{statement}
 use Rattle.sheet.proofs.headers.has_action.Tie as tie
-use Rattle.sheet.proofs.headers.has_action.Reads as reads
-use Rattle.sheet.proofs.headers.has_action.Lts as lts
-use Rattle.sheet.proofs.headers.read_header.Reads as read-header-reads
 
--- src/headers.rt:77:11
 read-header-requires : tie.Need-read-header-requires
 read-header-requires c κs = search needs
 
--- src/headers.rt:78:25
 enum-known-why : tie.Need-enum-known-why
 enum-known-why c = search needs
 
--- src/headers.rt:79:31
 enum-known-count : tie.Need-enum-known-count
 enum-known-count c = search needs
 
--- src/headers.rt:80:16
 cast-if1 : tie.Need-cast-if1
 cast-if1 c = search needs
 
--- src/headers.rt:81:17
 returns : tie.Need-returns
 returns c = search (there-beyond, needs)
 
--- src/headers.rt:74:1
 returns-2 : tie.Need-returns-2
 returns-2 c = search (there-by-header, needs)
 
--- src/headers.rt:74:1
 returns-3 : tie.Need-returns-3
 returns-3 c = search (there-yes, needs)
 
