@@ -2,7 +2,7 @@
 use mathlib.Core.Path.{_≡_, refl, ap, _∙_}
 use mathlib.Core.Bool.{false}
 use mathlib.Core.List.{List, [], _∷_, _++_}
-use Prim.Native.Nat.{ℕ, zero, suc, _+_, _/_, _%_, _^_, _≤_, _<_}
+use Prim.Native.Nat.{ℕ, zero, suc, _+_, _-_, _*_, _/_, _%_, _^_, _≤_, _<_}
 use native.Mathlib.Nat.{pow-suc}
 use native.Mathlib.Decide.{decLt}
 use native.Mathlib.Omega.{arith}
@@ -66,3 +66,48 @@ bits-at i zero x k h = absurd (omega arith)
 bits-at i (suc left) x zero h = ap (λ (m : ℕ). 48 + bit m x) {x = i} {y = i + 0} (omega arith)
 bits-at i (suc left) x (suc k) h =
     bits-at (suc i) left x k (omega arith) ∙ ap (λ (m : ℕ). 48 + bit m x) {x = suc i + k} {y = i + suc k} (omega arith)
+
+-- what digits read as, after a number that was read before them
+abbrev pub readAfter : ℕ → List ℕ → ℕ
+readAfter x [] = x
+readAfter x (c ∷ cs) = readAfter (10 * x + (c - 48)) cs
+
+read-last : (cs : List ℕ) (x c : ℕ) → readAfter x (cs ++ c ∷ []) ≡ 10 * readAfter x cs + (c - 48)
+read-last [] x c = refl
+read-last (a ∷ cs) x c = read-last cs (10 * x + (a - 48)) c
+
+-- a number's digits read as the number
+reads-in : (most x : ℕ) → x < most → readAfter 0 (decimalIn most x) ≡ x
+unfolding decimalIn
+reads-in zero x h = absurd (omega arith)
+reads-in (suc most) x h = go (decLt x 10) (λ d. reads-in most (x / 10) (omega arith))
+  where
+    go : Dec (x < 10) → (10 ≤ x → readAfter 0 (decimalIn most (x / 10)) ≡ x / 10) → readAfter 0 (decimalIn (suc most) x) ≡ x
+    go (yes d) on = rw (lt-ltb x 10 d) (omega arith)
+    go (no d) on =
+        let i = on (omega arith) in
+        let e : (x below 10) ≡ false = le-ltb x 10 (omega arith) in
+        rw e (read-last (decimalIn most (x / 10)) 0 (48 + x % 10) ∙ omega arith)
+
+pub decimal-reads : (x : ℕ) → readAfter 0 (decimal x) ≡ x
+decimal-reads x = reads-in (suc x) x (omega arith)
+
+-- the first digit is 0 for the number 0 alone
+leads-in : (most x : ℕ) → x < most → 0 < x → 48 < getD (decimalIn most x) 0 0
+unfolding decimalIn
+leads-in zero x h z = absurd (omega arith)
+leads-in (suc most) x h z = go (decLt x 10) (λ d. leads-in most (x / 10) (omega arith) (omega arith))
+  where
+    go : Dec (x < 10) → (10 ≤ x → 48 < getD (decimalIn most (x / 10)) 0 0) → 48 < getD (decimalIn (suc most) x) 0 0
+    go (yes d) on = rw (lt-ltb x 10 d) (omega arith)
+    go (no d) on =
+        let i = on (omega arith) in
+        let e : (x below 10) ≡ false = le-ltb x 10 (omega arith) in
+        rw e (front (decimalIn most (x / 10)) i)
+      where
+        front : (l : List ℕ) → 48 < getD l 0 0 → 48 < getD (l ++ (48 + x % 10) ∷ []) 0 0
+        front [] j = absurd (omega arith)
+        front (c ∷ cs) j = j
+
+pub no-leading-zero : (x : ℕ) → 0 < x → 48 < getD (decimal x) 0 0
+no-leading-zero x z = leads-in (suc x) x (omega arith) z

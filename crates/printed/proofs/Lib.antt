@@ -4,3 +4,5 @@ pub mod Decimals
 pub mod Writing
 -- how lines and runs meet their promises
 pub mod Promises
+-- no second text
+pub mod Once

@@ -1,15 +1,16 @@
 -- A line is told by what its action's entry answers; a run refuses by its one check, or prints what its header asks.
-use mathlib.Core.Path.{_≡_, refl, ap, _∙_}
+use mathlib.Core.Path.{_≡_, refl, sym, ap, _∙_}
+use mathlib.Core.Logic.{_⊎_, inl, inr}
 use mathlib.Core.List.{List, [], _∷_, _++_}
-use Prim.Native.Nat.{ℕ, _≤_, _<_}
+use Prim.Native.Nat.{ℕ, _+_, _≤_, _<_}
 use native.Mathlib.Nat.{zero-add}
 use native.Mathlib.Omega.{arith}
 use borrow.Author.Tests.{lt-ltb, le-ltb, ltb-false}
-use lib.ListN.{length, drop}
+use lib.ListN.{length, drop, length-append}
 use Rattle.table.specs.declared.Refusal.{Refusal}
 use Rattle.table.specs.Reply.{Reply.accepted, refused}
 use Rattle.table.specs.Checks.{Given, Given.here, Passed, Passed.none, Passed.passes, _below_}
-use Rattle.table.proofs.Checks.{given-once, not-given-and-passed, passed-nth, neither}
+use Rattle.table.proofs.Checks.{given-or-passed, given-once, not-given-and-passed, passed-nth, neither}
 use Rattle.book.specs.declared.Book.{Book}
 use Rattle.sheet.specs.declared.Header.{Header}
 use Rattle.sheet.specs.declared.Action.{Action}
@@ -19,7 +20,7 @@ use Rattle.sheet.proofs.Promises.{header-passed, header-fields}
 use Rattle.printed.specs.declared.Ran.{Ran}
 use Rattle.printed.specs.declared.Next.{Next}
 use Rattle.printed.specs.Wrote.{Wrote}
-use Rattle.printed.specs.Lines.{LineWritten, LineAtWritten, Prints, room, runChecks, Printed, RunsBy, Runs}
+use Rattle.printed.specs.Lines.{LineWritten, LineAtWritten, Prints, room, runChecks, ranSays, RunsBy, Runs}
 
 -- a line of the action that was read
 pub line-read : {n at : ℕ} {b : Book} {part before after : List ℕ} {r : Next} {a told : Action}
@@ -60,3 +61,19 @@ module _ (sheet : List ℕ) (header : Header) (before : List ℕ) where
 pub runs-as : {sheet before after : List ℕ} {r : Ran} {h told : Header}
     → ReadsHeader sheet h → h ≡ told → RunsBy sheet told before r after → Runs sheet before r after
 runs-as {told = told} reads e w = record { header = told; reads = rw e at reads; runs = w }
+
+-- what was printed lies within the memory
+pub runs-fit : {sheet before after : List ℕ} {r : Ran} {bytes : ℕ} → Runs sheet before r after → r ≡ Ran.Printed bytes → bytes ≤ length after
+runs-fit {sheet} {before} {after} {r} {bytes} w e = go (given-or-passed (runChecks (w .header) before))
+  where
+    go : ((k : ℕ) × Given k (runChecks (w .header) before)) ⊎ Passed (runChecks (w .header) before) → bytes ≤ length after
+    go (inl g) =
+        let f : accepted (bytes ∷ []) ≡ refused (g .0) = sym (ap ranSays e) ∙ w .runs .refuses (g .0) (g .1) .0 in
+        let z : _≡_ {A = ℕ} 0 1 = cc in
+        absurd (omega arith)
+    go (inr p) =
+        let q = w .runs .prints p in
+        let f : accepted (bytes ∷ []) ≡ accepted (length (q .0) ∷ []) = sym (ap ranSays e) ∙ q .2 in
+        let b : bytes ≡ length (q .0) = cc in
+        let l : length after ≡ length (q .0) + length (drop (length (q .0)) before) = ap length (q .3) ∙ length-append (q .0) (drop (length (q .0)) before) in
+        omega arith
