@@ -82,8 +82,8 @@ fn fault_line(book: Book, why: Refusal, out: &mut [u8], at: usize) -> Next
     ensures { λ r. ⌜ ((n : ℕ) → LineWritten n book (Action.Refused why) (now (out .entry)) at (now (out .exit)) r) ⌝ }
 {
     let end = word(out, at, b"ACTION");
-    let next = refusal_told(out, end, why);
-    Next { book, at: next }
+    let told = refusal_told(out, end, why);
+    Next { book, at: told }
 }
 
 // "`OK`, or `REFUSED` and the table number"
