@@ -1,0 +1,79 @@
+-- A line is told by what its action's entry answers; a run refuses by its one check, or prints what its header asks.
+use mathlib.Core.Path.{_≡_, refl, sym, ap, _∙_}
+use mathlib.Core.Logic.{_⊎_, inl, inr}
+use mathlib.Core.List.{List, [], _∷_, _++_}
+use Prim.Native.Nat.{ℕ, _+_, _≤_, _<_}
+use native.Mathlib.Nat.{zero-add}
+use native.Mathlib.Omega.{arith}
+use borrow.Author.Tests.{lt-ltb, le-ltb, ltb-false}
+use lib.ListN.{length, drop, length-append}
+use Rattle.table.specs.declared.Refusal.{Refusal}
+use Rattle.table.specs.Reply.{Reply.accepted, refused}
+use Rattle.table.specs.Checks.{Given, Given.here, Passed, Passed.none, Passed.passes, _below_}
+use Rattle.table.proofs.Checks.{given-or-passed, given-once, not-given-and-passed, passed-nth, neither}
+use Rattle.book.specs.declared.Book.{Book}
+use Rattle.sheet.specs.declared.Header.{Header}
+use Rattle.sheet.specs.declared.Action.{Action}
+use Rattle.sheet.specs.Format.{sizeIn}
+use Rattle.sheet.specs.Entries.{headerChecks, ReadsHeader, ReadsAction}
+use Rattle.sheet.proofs.Promises.{header-passed, header-fields}
+use Rattle.printed.specs.declared.Ran.{Ran}
+use Rattle.printed.specs.declared.Next.{Next}
+use Rattle.printed.specs.Wrote.{Wrote}
+use Rattle.printed.specs.Lines.{LineWritten, LineAtWritten, Prints, room, runChecks, ranSays, RunsBy, Runs}
+
+-- a line of the action that was read
+pub line-read : {n at : ℕ} {b : Book} {part before after : List ℕ} {r : Next} {a told : Action}
+    → ReadsAction part a → a ≡ told → LineWritten n b told before at after r → LineAtWritten n b part before at after r
+line-read {told = told} reads e w =
+    record { text = w .text; tells = record { action = told; reads = rw e at reads; tells = w .tells }; wrote = w .wrote; short = w .short }
+
+-- a text written at the front
+pub wrote-front : {before text after : List ℕ} {next : ℕ} → Wrote before 0 text after next → after ≡ text ++ drop (length text) before
+wrote-front {before} {text} w = w .leaves ∙ ap (λ (k : ℕ). text ++ drop k before) (zero-add (length text))
+
+-- a header that is accepted has a size that fits
+pub few-stages : {sheet : List ℕ} {h : Header} {n count : ℕ} → ReadsHeader sheet h → h ≡ Header.Sheet n count → n ≤ 12
+few-stages {sheet} {h} {n} {count} reads e =
+    let q : ReadsHeader sheet (Header.Sheet n count) = rw e at reads in
+    let s = neither (sizeIn sheet below 1) (12 below sizeIn sheet) (passed-nth (headerChecks sheet) 1 (header-passed q)) .1 in
+    let few = ltb-false 12 (sizeIn sheet) s in
+    let same = header-fields q .0 in
+    omega arith
+
+module _ (sheet : List ℕ) (header : Header) (before : List ℕ) where
+  pub runs-short : length before < room header → RunsBy sheet header before (Ran.Refused Refusal.Room) before
+  runs-short h =
+      let g : Given 13 (runChecks header before) = here (lt-ltb (length before) (room header) h) refl in
+      record {
+        refuses = λ k j. (ap refused (given-once 13 k (runChecks header before) g j), refl);
+        prints = λ p. absurd (not-given-and-passed 13 (runChecks header before) g p);
+      }
+
+  pub runs-whole : {text after : List ℕ} {next : ℕ} → room header ≤ length before → Prints sheet header text → Wrote before 0 text after next → RunsBy sheet header before (Ran.Printed next) after
+  runs-whole {text} {after} {next} h p w =
+      let q : Passed (runChecks header before) = passes (le-ltb (length before) (room header) h) none in
+      record {
+        refuses = λ k g. absurd (not-given-and-passed k (runChecks header before) g q);
+        prints = λ r. (text, p, ap (λ (k : ℕ). accepted (k ∷ [])) (w .ends ∙ zero-add (length text)), wrote-front w);
+      }
+
+pub runs-as : {sheet before after : List ℕ} {r : Ran} {h told : Header}
+    → ReadsHeader sheet h → h ≡ told → RunsBy sheet told before r after → Runs sheet before r after
+runs-as {told = told} reads e w = record { header = told; reads = rw e at reads; runs = w }
+
+-- what was printed lies within the memory
+pub runs-fit : {sheet before after : List ℕ} {r : Ran} {bytes : ℕ} → Runs sheet before r after → r ≡ Ran.Printed bytes → bytes ≤ length after
+runs-fit {sheet} {before} {after} {r} {bytes} w e = go (given-or-passed (runChecks (w .header) before))
+  where
+    go : ((k : ℕ) × Given k (runChecks (w .header) before)) ⊎ Passed (runChecks (w .header) before) → bytes ≤ length after
+    go (inl g) =
+        let f : accepted (bytes ∷ []) ≡ refused (g .0) = sym (ap ranSays e) ∙ w .runs .refuses (g .0) (g .1) .0 in
+        let z : _≡_ {A = ℕ} 0 1 = cc in
+        absurd (omega arith)
+    go (inr p) =
+        let q = w .runs .prints p in
+        let f : accepted (bytes ∷ []) ≡ accepted (length (q .0) ∷ []) = sym (ap ranSays e) ∙ q .2 in
+        let b : bytes ≡ length (q .0) = cc in
+        let l : length after ≡ length (q .0) + length (drop (length (q .0)) before) = ap length (q .3) ∙ length-append (q .0) (drop (length (q .0)) before) in
+        omega arith

@@ -1,0 +1,6 @@
+-- the format, read and written
+pub mod Layouts
+-- how the entries meet their promises
+pub mod Promises
+-- no second answer, and what is written is what is read
+pub mod Sheets

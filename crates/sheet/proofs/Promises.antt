@@ -1,0 +1,149 @@
+-- An entry meets its promise where it refuses by a number that its checks give, and where it passes them and does its work.
+use mathlib.Core.Path.{_≡_, refl, sym, ap, _∙_}
+use mathlib.Core.Bool.{true, false, not}
+use mathlib.Core.List.{List, [], _∷_, _++_}
+use mathlib.Core.Logic.{_⊎_, inl, inr}
+use Prim.Native.Nat.{ℕ, _+_, _-_, _≤_, _<_}
+use native.Mathlib.Omega.{arith}
+use borrow.Author.Tests.{eq-eqb, ne-eqb, le-leb, lt-leb, leb-false, ltb-false, eqb-true, not-false}
+use lib.Dec.{eqb}
+use lib.ListN.{length, take, drop}
+use Rattle.table.specs.declared.Refusal.{Refusal}
+use Rattle.table.specs.Numbers.{numberOf}
+use Rattle.table.specs.Reply.{Reply.accepted, refused}
+use Rattle.table.specs.Checks.{Check, _when_, _below_, _notBelow_, checked, Given, Given.here, Given.later, Passed, Passed.none, Passed.passes}
+use Rattle.table.proofs.Checks.{given-refuses, passed-accepts, given-or-passed, accepted-passed, passed-nth, neither}
+use Rattle.sheet.specs.declared.Header.{Header}
+use Rattle.sheet.specs.declared.There.{There}
+use Rattle.sheet.specs.declared.Action.{Action}
+use Rattle.sheet.specs.Format.{sizeIn, countIn, placeOf}
+use Rattle.sheet.specs.Entries.{actionSays, headerChecks, ReadsHeader, thereChecks, HasAction, startOf, partOf, actionChecks, ReadsAction}
+
+-- an entry that refuses was given its number by its checks
+pub refused-given : (cs : List Check) (v : List ℕ) (k : ℕ) → refused k ≡ checked cs refused (accepted v) → Given k cs
+refused-given cs v k e = go (given-or-passed cs)
+  where
+    go : ((j : ℕ) × Given j cs) ⊎ Passed cs → Given k cs
+    go (inl g) =
+        let f : refused k ≡ refused (g .0) = e ∙ given-refuses refused (accepted v) (g .0) cs (g .1) in
+        let same : g .0 ≡ k = cc in
+        rw same at (g .1)
+    go (inr p) =
+        let f : refused k ≡ accepted v = e ∙ passed-accepts refused (accepted v) cs p in
+        let z : _≡_ {A = ℕ} 0 1 = cc in
+        absurd (omega arith)
+
+-- and one that accepts says what an accepted call gives
+pub accepted-says : (cs : List Check) (v w : List ℕ) → accepted w ≡ checked cs refused (accepted v) → w ≡ v
+accepted-says cs v w e =
+    let f : accepted w ≡ accepted v = e ∙ passed-accepts refused (accepted v) cs (accepted-passed cs v w e) in
+    cc
+
+-- checks and then more checks
+pub given-before : {k : ℕ} (cs ds : List Check) → Given k cs → Given k (cs ++ ds)
+given-before (c ∷ cs) ds (here h e) = here h e
+given-before (c ∷ cs) ds (later h g) = later h (given-before cs ds g)
+
+pub given-after : {k : ℕ} (cs ds : List Check) → Passed cs → Given k ds → Given k (cs ++ ds)
+given-after [] ds none g = g
+given-after (c ∷ cs) ds (passes h p) g = later h (given-after cs ds p g)
+
+pub passed-both : (cs ds : List Check) → Passed cs → Passed ds → Passed (cs ++ ds)
+passed-both [] ds none q = q
+passed-both (c ∷ cs) ds (passes h p) q = passes h (passed-both cs ds p q)
+
+-- what tests for inequality say
+pub unequal : {x y : ℕ} → (x ≡ y → ⊥) → not (eqb x y) ≡ true
+unequal {x} {y} h = ap not (ne-eqb x y h)
+
+pub equal : {x y : ℕ} → x ≡ y → not (eqb x y) ≡ false
+equal {x} {y} h = ap not (eq-eqb x y h)
+
+module _ {sheet : List ℕ} where
+  pub header-refuses : {why : Refusal} → Given (numberOf why) (headerChecks sheet) → ReadsHeader sheet (Header.Refused why)
+  header-refuses {why} g =
+      record { says = sym (given-refuses refused (accepted (sizeIn sheet ∷ countIn sheet ∷ [])) (numberOf why) (headerChecks sheet) g) }
+
+  pub header-accepts : {count : ℕ} → Passed (headerChecks sheet) → count ≡ countIn sheet → ReadsHeader sheet (Header.Sheet (sizeIn sheet) count)
+  header-accepts {count} p e =
+      record {
+        says =
+            ap (λ (x : ℕ). accepted (sizeIn sheet ∷ x ∷ [])) e
+            ∙ sym (passed-accepts refused (accepted (sizeIn sheet ∷ countIn sheet ∷ [])) (headerChecks sheet) p);
+      }
+
+  -- what the header's answer says of the checks
+  pub header-given : {why : Refusal} → ReadsHeader sheet (Header.Refused why) → Given (numberOf why) (headerChecks sheet)
+  header-given {why} r = refused-given (headerChecks sheet) (sizeIn sheet ∷ countIn sheet ∷ []) (numberOf why) (r .says)
+
+  pub header-passed : {n count : ℕ} → ReadsHeader sheet (Header.Sheet n count) → Passed (headerChecks sheet)
+  header-passed {n} {count} r = accepted-passed (headerChecks sheet) (sizeIn sheet ∷ countIn sheet ∷ []) (n ∷ count ∷ []) (r .says)
+
+  pub header-fields : {n count : ℕ} → ReadsHeader sheet (Header.Sheet n count) → (n ≡ sizeIn sheet) × (count ≡ countIn sheet)
+  header-fields {n} {count} r =
+      let e : n ∷ count ∷ [] ≡ sizeIn sheet ∷ countIn sheet ∷ [] = accepted-says (headerChecks sheet) (sizeIn sheet ∷ countIn sheet ∷ []) (n ∷ count ∷ []) (r .says) in
+      ((cc), (cc))
+
+module _ {sheet : List ℕ} {k : ℕ} where
+  pub there-refuses : {why : Refusal} → Given (numberOf why) (thereChecks sheet k) → HasAction sheet k (There.Refused why)
+  there-refuses {why} g = record { says = sym (given-refuses refused (accepted []) (numberOf why) (thereChecks sheet k) g) }
+
+  pub there-accepts : Passed (thereChecks sheet k) → HasAction sheet k There.Yes
+  there-accepts p = record { says = sym (passed-accepts refused (accepted []) (thereChecks sheet k) p) }
+
+  -- "a bad header gives the header's number"
+  pub there-by-header : {h : Header} {why : Refusal} → ReadsHeader sheet h → h ≡ Header.Refused why → HasAction sheet k (There.Refused why)
+  there-by-header {h} {why} r e =
+      there-refuses (given-before (headerChecks sheet) ((13 when k notBelow countIn sheet) ∷ []) (header-given (rw e at r)))
+
+  -- "k not below the count gives 13"
+  pub there-beyond : {h : Header} {n count : ℕ} → ReadsHeader sheet h → h ≡ Header.Sheet n count → count ≤ k → HasAction sheet k (There.Refused Refusal.Room)
+  there-beyond {h} {n} {count} r e b =
+      let q : ReadsHeader sheet (Header.Sheet n count) = rw e at r in
+      let f = header-fields q .1 in
+      there-refuses (given-after (headerChecks sheet) ((13 when k notBelow countIn sheet) ∷ []) (header-passed q) (here (le-leb (countIn sheet) k (omega arith)) refl))
+
+  pub there-yes : {h : Header} {n count : ℕ} → ReadsHeader sheet h → h ≡ Header.Sheet n count → k < count → HasAction sheet k There.Yes
+  there-yes {h} {n} {count} r e b =
+      let q : ReadsHeader sheet (Header.Sheet n count) = rw e at r in
+      let f = header-fields q .1 in
+      there-accepts (passed-both (headerChecks sheet) ((13 when k notBelow countIn sheet) ∷ []) (header-passed q) (passes (lt-leb (countIn sheet) k (omega arith)) none))
+
+  pub there-passed : HasAction sheet k There.Yes → Passed (thereChecks sheet k)
+  there-passed r = accepted-passed (thereChecks sheet k) [] [] (r .says)
+
+  pub there-given : {why : Refusal} → HasAction sheet k (There.Refused why) → Given (numberOf why) (thereChecks sheet k)
+  there-given {why} r = refused-given (thereChecks sheet k) [] (numberOf why) (r .says)
+
+  -- an action that is there lies within the sheet
+  pub there-fits : {t : There} → HasAction sheet k t → t ≡ There.Yes → (k < 4096) × (placeOf k + 10 ≤ length sheet)
+  there-fits r e =
+      let p = there-passed (rw e at r) in
+      let early : k < countIn sheet = leb-false (countIn sheet) k (passed-nth (thereChecks sheet k) 3 p) in
+      let len = neither (4096 below countIn sheet) (not (eqb (length sheet) (placeOf (countIn sheet)))) (passed-nth (thereChecks sheet k) 2 p) in
+      let few : countIn sheet ≤ 4096 = ltb-false 4096 (countIn sheet) (len .0) in
+      let same : length sheet ≡ placeOf (countIn sheet) = eqb-true (length sheet) (placeOf (countIn sheet)) (not-false (eqb (length sheet) (placeOf (countIn sheet))) (len .1)) in
+      (omega arith, omega arith)
+
+  pub part-there : {t : There} → HasAction sheet k t → t ≡ There.Yes → take (placeOf k + 10 - placeOf k) (drop (placeOf k) sheet) ≡ partOf sheet k
+  part-there r e =
+      ap (λ (j : ℕ). take j (drop (placeOf k) sheet)) {x = placeOf k + 10 - placeOf k} {y = 10} (omega arith)
+      ∙ sym (passed-accepts (λ j. []) (take 10 (drop (placeOf k) sheet)) (thereChecks sheet k) (there-passed (rw e at r)))
+
+  pub part-nowhere : {t : There} {why : Refusal} → HasAction sheet k t → t ≡ There.Refused why → [] ≡ partOf sheet k
+  part-nowhere {t} {why} r e =
+      sym (given-refuses (λ j. []) (take 10 (drop (placeOf k) sheet)) (numberOf why) (thereChecks sheet k) (there-given {why = why} (rw e at r)))
+
+  -- and where the part starts
+  pub start-there : {t : There} → HasAction sheet k t → t ≡ There.Yes → placeOf k ≡ startOf sheet k
+  start-there r e = sym (passed-accepts (λ j. 0) (placeOf k) (thereChecks sheet k) (there-passed (rw e at r)))
+
+  pub start-nowhere : {t : There} {why : Refusal} → HasAction sheet k t → t ≡ There.Refused why → 0 ≡ startOf sheet k
+  start-nowhere {t} {why} r e = sym (given-refuses (λ j. 0) (placeOf k) (numberOf why) (thereChecks sheet k) (there-given {why = why} (rw e at r)))
+
+module _ {part : List ℕ} where
+  pub action-refuses : {why : Refusal} → Given (numberOf why) (actionChecks part) → ReadsAction part (Action.Refused why)
+  action-refuses {why} g = record { says = sym (given-refuses refused (accepted part) (numberOf why) (actionChecks part) g) }
+
+  pub action-accepts : {a : Action} → Passed (actionChecks part) → actionSays a ≡ accepted part → ReadsAction part a
+  action-accepts {a} p e = record { says = e ∙ sym (passed-accepts refused (accepted part) (actionChecks part) p) }

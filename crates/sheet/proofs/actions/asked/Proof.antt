@@ -1,0 +1,21 @@
+use mathlib.Core.Path.{ap}
+use borrow.Author.Needs.{needs}
+use Rattle.table.specs.Reply.{Reply.accepted}
+use Rattle.sheet.proofs.Layouts.{withdrawing-bytes, routing-bytes, filing-right, withdrawing-right, routing-right}
+use Rattle.sheet.proofs.actions.asked.Statement.{statement}
+use Rattle.sheet.proofs.actions.asked.Tie as tie
+
+filed-requires : tie.Need-filed-requires
+filed-requires c κs = (c .if1 .taken, filing-right (c .before .before .args .f) (c .if1 .taken) (c .before .before .pre))
+
+returns : tie.Need-returns
+returns c = search needs
+
+returns-2 : tie.Need-returns-2
+returns-2 c = ap accepted (withdrawing-bytes (c .before .before .before .before .args .f) (c .if2 .taken) (withdrawing-right (c .before .before .before .before .args .f) (c .if2 .taken) (c .before .before .before .before .pre)))
+
+returns-3 : tie.Need-returns-3
+returns-3 c = let h = routing-right (c .before .before .before .before .args .f) (c .before .before .if1 .left) (c .if2 .left) (c .before .before .before .before .pre) in ap accepted (routing-bytes (c .before .before .before .before .args .f) (h .0) (h .1))
+
+pub asked-spec : {M : Type 1} → statement M
+asked-spec = tie.close (tie.spec filed-requires returns returns-2 returns-3)

@@ -1,0 +1,11 @@
+use mathlib.Core.Path.{ap}
+use Rattle.table.specs.Reply.{Reply.accepted}
+use Rattle.sheet.proofs.Layouts.{pattern-bytes}
+use Rattle.sheet.proofs.actions.pattern.Statement.{statement}
+use Rattle.sheet.proofs.actions.pattern.Tie as tie
+
+returns : tie.Need-returns
+returns c = ap accepted (pattern-bytes (c .args .f) (c .pre .0) (c .pre .1))
+
+pub pattern-spec : {M : Type 1} → statement M
+pattern-spec = tie.close (tie.spec returns)

@@ -1,0 +1,32 @@
+use mathlib.Core.Path.{refl, sym, ap, _∙_}
+use borrow.Author.Needs.{needs}
+use Rattle.table.specs.Reply.{Reply.accepted}
+use Rattle.table.specs.Checks.{Given.here, Given.later, Passed.none, Passed.passes}
+use Rattle.table.proofs.Checks.{by-test, refusing}
+use Rattle.sheet.specs.Format.{layoutFault}
+use Rattle.sheet.proofs.Promises.{equal, unequal, action-refuses, action-accepts}
+use Rattle.sheet.proofs.actions.read_action.Statement.{statement}
+use Rattle.sheet.proofs.actions.read_action.Tie as tie
+
+returns : tie.Need-returns
+returns c = search (action-refuses, unequal, refusing) depth 10
+
+fields-requires : tie.Need-fields-requires
+fields-requires c κs = search needs
+
+layout-fault-requires : tie.Need-layout-fault-requires
+layout-fault-requires c κs = search needs
+
+returns-2 : tie.Need-returns-2
+returns-2 c = action-refuses (later (equal (c .before .before .before .if1 .left)) (here (ap layoutFault (sym (c .before .before .fields .ensures .0)) ∙ sym (c .before .layout-fault .ensures) ∙ c .if2 .taken) refl))
+
+asked-requires : tie.Need-asked-requires
+asked-requires c κs = search by-test
+
+returns-3 : tie.Need-returns-3
+returns-3 c = action-accepts (passes (equal (c .before .before .before .before .if1 .left)) (passes (ap layoutFault (sym (c .before .before .before .fields .ensures .0)) ∙ sym (c .before .before .layout-fault .ensures) ∙ c .before .if2 .left) none)) (c .asked .ensures ∙ ap accepted (c .before .before .before .fields .ensures .1))
+
+pub read-action-spec : {M : Type 1} → statement M
+read-action-spec =
+    tie.close
+    (tie.spec returns fields-requires layout-fault-requires returns-2 asked-requires returns-3)

@@ -1,0 +1,11 @@
+use mathlib.Core.Path.{ap}
+use Rattle.table.specs.Reply.{Reply.accepted}
+use Rattle.sheet.proofs.Layouts.{switch-bytes}
+use Rattle.sheet.proofs.actions.switch.Statement.{statement}
+use Rattle.sheet.proofs.actions.switch.Tie as tie
+
+returns : tie.Need-returns
+returns c = ap accepted (switch-bytes (c .args .f) (c .pre .0) (c .pre .1) (c .pre .2) (c .pre .3))
+
+pub switch-spec : {M : Type 1} → statement M
+switch-spec = tie.close (tie.spec returns)

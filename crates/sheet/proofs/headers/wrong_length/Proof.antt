@@ -1,0 +1,26 @@
+use borrow.Author.Tests.{lt-ltb, le-ltb}
+use borrow.Author.Needs.{needs}
+use Rattle.sheet.proofs.headers.wrong_length.Statement.{statement}
+use Rattle.sheet.proofs.headers.wrong_length.Tie as tie
+
+word-at-requires : tie.Need-word-at-requires
+word-at-requires c κs = search needs
+
+returns : tie.Need-returns
+returns c = rw (← c .before .word-at .ensures, lt-ltb _ _ (c .if1 .taken))
+
+cast-result : tie.Need-cast-result
+cast-result c = search needs
+
+mul-result : tie.Need-mul-result
+mul-result c = search needs
+
+add-result : tie.Need-add-result
+add-result c = search needs
+
+returns-2 : tie.Need-returns-2
+returns-2 c = rw (← c .before .word-at .ensures, le-ltb _ _ (c .if1 .left))
+
+pub wrong-length-spec : {M : Type 1} → statement M
+wrong-length-spec =
+    tie.close (tie.spec word-at-requires returns cast-result mul-result add-result returns-2)

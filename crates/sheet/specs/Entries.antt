@@ -1,0 +1,75 @@
+-- Document 01, 'Numbers handed back', "Entries and order of checks": sheet header, whether action k is there, its part, and
+-- the action reader.
+use mathlib.Core.Path.{_≡_}
+use mathlib.Core.Bool.{Bool, not, _||_}
+use mathlib.Core.List.{List, [], _∷_, _++_}
+use Prim.Native.Nat.{ℕ}
+use lib.Dec.{eqb}
+use lib.ListN.{length, take, drop, getD}
+use Rattle.table.specs.Numbers.{numberOf}
+use Rattle.table.specs.Reply.{Reply, refused}
+use Rattle.table.specs.Checks.{Check, checked, _when_, _below_, _notBelow_}
+use Rattle.fabric.specs.Labels.{outsideSizes}
+use Rattle.sheet.specs.declared.Header.{Header}
+use Rattle.sheet.specs.declared.There.{There}
+use Rattle.sheet.specs.declared.Action.{Action}
+use Rattle.sheet.specs.Format.{word, sizeIn, countIn, placeOf, fieldsOf, bytesOf, layoutFault}
+
+-- the number and values of each answer; the values of an action are the bytes of its fields
+abbrev pub headerSays : Header → Reply
+headerSays (Header.Sheet n count) = Reply.accepted (n ∷ count ∷ [])
+headerSays (Header.Refused why) = refused (numberOf why)
+
+abbrev pub thereSays : There → Reply
+thereSays There.Yes = Reply.accepted []
+thereSays (There.Refused why) = refused (numberOf why)
+
+abbrev pub actionSays : Action → Reply
+actionSays (Action.File x) = Reply.accepted (bytesOf (Action.File x))
+actionSays (Action.Withdraw number) = Reply.accepted (bytesOf (Action.Withdraw number))
+actionSays (Action.Route source destination) = Reply.accepted (bytesOf (Action.Route source destination))
+actionSays (Action.Refused why) = refused (numberOf why)
+
+-- 14: "sheet under 8 bytes, wrong mark or version"
+abbrev pub wrongMark : List ℕ → Bool
+wrongMark sheet =
+    length sheet below 8
+    || not (eqb (getD sheet 0 0) 70)
+    || not (eqb (getD sheet 1 0) 83)
+    || not (eqb (getD sheet 2 0) 72)
+    || not (eqb (word sheet 3) 1)
+
+-- 15: "action count above 4,096, or wrong sheet length"
+abbrev pub wrongLength : List ℕ → Bool
+wrongLength sheet = 4096 below countIn sheet || not (eqb (length sheet) (placeOf (countIn sheet)))
+
+-- "sheet header: 14, 1, 15; otherwise it answers n and the count."
+abbrev pub headerChecks : List ℕ → List Check
+headerChecks sheet =
+    (14 when wrongMark sheet) ∷ (1 when outsideSizes (sizeIn sheet)) ∷ (15 when wrongLength sheet) ∷ []
+
+pub record ReadsHeader (sheet : List ℕ) (answer : Header) : Type 0 where
+  pub says : headerSays answer ≡ checked (headerChecks sheet) refused (Reply.accepted (sizeIn sheet ∷ countIn sheet ∷ []))
+
+-- "For a sheet and k, counted from 0, one entry says whether the action is there: a bad header gives the header's number, k
+-- not below the count gives 13."
+abbrev pub thereChecks : List ℕ → ℕ → List Check
+thereChecks sheet k = headerChecks sheet ++ (13 when k notBelow countIn sheet) ∷ []
+
+pub record HasAction (sheet : List ℕ) (k : ℕ) (answer : There) : Type 0 where
+  pub says : thereSays answer ≡ checked (thereChecks sheet k) refused (Reply.accepted [])
+
+-- "A second entry returns a part only: where the first accepts, action k is handed back as those ten bytes of the sheet
+-- themselves; otherwise the empty part at the sheet's front."
+abbrev pub startOf : List ℕ → ℕ → ℕ
+startOf sheet k = checked (thereChecks sheet k) (λ j. 0) (placeOf k)
+
+abbrev pub partOf : List ℕ → ℕ → List ℕ
+partOf sheet k = checked (thereChecks sheet k) (λ j. take 0 (drop 0 sheet)) (take 10 (drop (placeOf k) sheet))
+
+-- "action reader (a part): 13, 2; otherwise the action with its fields."
+abbrev pub actionChecks : List ℕ → List Check
+actionChecks part = (13 when not (eqb (length part) 10)) ∷ (2 when layoutFault (fieldsOf part)) ∷ []
+
+pub record ReadsAction (part : List ℕ) (answer : Action) : Type 0 where
+  pub says : actionSays answer ≡ checked (actionChecks part) refused (Reply.accepted part)

@@ -1,0 +1,104 @@
+// A sheet's header, and the parts of a sheet that are its actions.
+use crate::Header;
+use crate::There;
+use table::Refusal;
+ghost use mathlib.Core.Path.{_≡_};
+ghost use mathlib.Core.Bool.{false};
+ghost use Prim.Native.Nat.{_+_, _≤_, _<_};
+ghost use lib.ListN.{length};
+ghost use Rattle.sheet.specs.Format.{word};
+ghost use Rattle.sheet.specs.Entries.{wrongMark, wrongLength, ReadsHeader, HasAction, startOf, partOf};
+
+// The number of 16 bits at a place.
+pub fn word_at(bytes: &[u8], at: usize) -> u16
+    requires { ⌜ at + 1 < length (now bytes) ⌝ }
+    ensures { λ r. ⌜ r ≡ word (now (bytes .entry)) at ⌝ }
+{
+    wide(bytes[at]) * 256 + wide(bytes[at + 1])
+}
+
+fn wide(x: u8) -> u16
+    ensures { λ r. ⌜ (r ≡ x) × (r < 256) ⌝ }
+{
+    x as u16
+}
+
+// 14
+fn wrong_mark(sheet: &[u8]) -> bool
+    ensures { λ r. ⌜ (r ≡ wrongMark (now (sheet .entry))) × (r ≡ false → 8 ≤ length (now (sheet .entry))) ⌝ }
+{
+    if sheet.len() < 8 {
+        return true;
+    }
+    if sheet[0] != b'F' {
+        return true;
+    }
+    if sheet[1] != b'S' {
+        return true;
+    }
+    if sheet[2] != b'H' {
+        return true;
+    }
+    word_at(sheet, 3) != 1
+}
+
+// 15
+fn wrong_length(sheet: &[u8]) -> bool
+    requires { ⌜ 8 ≤ length (now sheet) ⌝ }
+    ensures { λ r. ⌜ r ≡ wrongLength (now (sheet .entry)) ⌝ }
+{
+    let count = word_at(sheet, 6);
+    if 4096 < count {
+        return true;
+    }
+    sheet.len() != 8 + 10 * count as usize
+}
+
+// "sheet header: 14, 1, 15; otherwise it answers n and the count."
+pub fn read_header(sheet: &[u8]) -> Header
+    ensures { λ r. ⌜ ReadsHeader (now (sheet .entry)) r ⌝ }
+{
+    if wrong_mark(sheet) {
+        return Header::Refused(Refusal::Mark);
+    }
+    let n = sheet[5];
+    if fabric::outside_sizes(n) {
+        return Header::Refused(Refusal::Size);
+    }
+    if wrong_length(sheet) {
+        return Header::Refused(Refusal::Length);
+    }
+    Header::Sheet {
+        n,
+        count: word_at(sheet, 6),
+    }
+}
+
+// "a bad header gives the header's number, k not below the count gives 13"
+pub fn has_action(sheet: &[u8], k: usize) -> There
+    ensures { λ r. ⌜ HasAction (now (sheet .entry)) k r ⌝ }
+{
+    match read_header(sheet) {
+        Header::Refused(why) => There::Refused(why),
+        Header::Sheet { n: _, count } => {
+            if count as usize <= k {
+                return There::Refused(Refusal::Room);
+            }
+            There::Yes
+        }
+    }
+}
+
+// "action k is handed back as those ten bytes of the sheet themselves; otherwise the empty part at the sheet's front."
+pub fn action_part<'a>(sheet: &'a [u8], k: usize) -> &'a [u8]
+    ensures { λ r. ⌜ (now r ≡ partOf (now (sheet .entry)) k) × (r .ptr .0 ≡ sheet .entry .ptr .0) × (r .ptr .1 ≡ startOf (now (sheet .entry)) k + sheet .entry .ptr .1) ⌝ }
+{
+    match has_action(sheet, k) {
+        There::Yes => {
+            let start = 8 + 10 * k;
+            let end = start + 10;
+            &sheet[start..end]
+        }
+        There::Refused(_) => &sheet[0..0],
+    }
+}
