@@ -2,57 +2,25 @@
 use mathlib.Core.Path.{_≡_, refl, sym, ap, ap₂, _∙_}
 use mathlib.Core.Logic.{_⊎_, inl, inr}
 use mathlib.Core.List.{List, [], _∷_, _++_}
-use Prim.Native.Nat.{ℕ, suc, _+_, _≤_}
+use Prim.Native.Nat.{ℕ}
 use native.Mathlib.Omega.{arith}
 use lib.ListN.{length, drop}
 use Rattle.table.specs.Numbers.{numberOf}
-use Rattle.table.specs.Reply.{Reply, Reply.accepted, Reply.refusedWith, refused}
+use Rattle.table.specs.Reply.{Reply.accepted}
 use Rattle.table.specs.Checks.{Given, Passed}
 use Rattle.table.proofs.Numbers.{number-tells}
 use Rattle.table.proofs.Checks.{given-or-passed}
-use Rattle.tags.specs.Tags.{normalTag}
-use Rattle.paths.specs.Clear.{Rule}
-use Rattle.paths.proofs.Order.{first-once}
-use Rattle.paths.proofs.Walks.{stage-once}
 use Rattle.book.specs.declared.Book.{Book}
 use Rattle.book.specs.declared.Kept.{Kept}
-use Rattle.book.specs.Entries.{Opens}
 use Rattle.book.proofs.Once.{opens-once, files-once, withdraws-once}
-use Rattle.router.specs.declared.Found.{Found}
-use Rattle.router.specs.Entries.{stopsOf, routeSays, routeChecks, Routed, Routes}
+use Rattle.router.proofs.Entries.{route-once}
 use Rattle.sheet.specs.declared.Header.{Header}
 use Rattle.sheet.specs.declared.Action.{Action}
-use Rattle.sheet.specs.Entries.{partOf, ReadsHeader, ReadsAction}
+use Rattle.sheet.specs.Entries.{partOf}
 use Rattle.sheet.proofs.Sheets.{header-once, action-once}
 use Rattle.printed.specs.declared.Ran.{Ran}
 use Rattle.printed.specs.Text.{sheetLine, fileLine, withdrawLine, routeLine}
 use Rattle.printed.specs.Lines.{LineOf, LineAt, Lines, Lines.start, Lines.more, Prints, runChecks, ranSays, RunsBy, Runs}
-
--- a route's answer is known by what it says
-found-tells : (a b : Found) → routeSays a ≡ routeSays b → a ≡ b
-found-tells (Found.Tag t) (Found.Tag u) e = let z : t ≡ u = cc in ap Found.Tag z
-found-tells (Found.Tag t) (Found.None j) e = let z : _≡_ {A = ℕ} 0 1 = cc in absurd (omega arith)
-found-tells (Found.Tag t) (Found.Refused r) e = let z : _≡_ {A = ℕ} 0 1 = cc in absurd (omega arith)
-found-tells (Found.None i) (Found.Tag u) e = let z : _≡_ {A = ℕ} 0 1 = cc in absurd (omega arith)
-found-tells (Found.None i) (Found.None j) e = let z : i ≡ j = cc in ap Found.None z
-found-tells (Found.None i) (Found.Refused r) e = let z : _≡_ {A = ℕ} 0 1 = cc in absurd (omega arith)
-found-tells (Found.Refused q) (Found.Tag u) e = let z : _≡_ {A = ℕ} 0 1 = cc in absurd (omega arith)
-found-tells (Found.Refused q) (Found.None j) e = let z : _≡_ {A = ℕ} 0 1 = cc in absurd (omega arith)
-found-tells (Found.Refused q) (Found.Refused r) e = let z : numberOf q ≡ numberOf r = cc in ap Found.Refused (number-tells q r z)
-
-routed-once : (n : ℕ) (stops : Rule) (s d : ℕ) (a b : Found) → Routed n stops s d a → Routed n stops s d b → a ≡ b
-routed-once n stops s d (Found.Tag t) (Found.Tag u) p q =
-    ap Found.Tag (p .2 ∙ ap (normalTag n s) (first-once n stops s d (p .0) (q .0) (p .1) (q .1)) ∙ sym (q .2))
-routed-once n stops s d (Found.Tag t) (Found.None j) p q = absurd (q .0 (p .0) (p .1 .clearPath))
-routed-once n stops s d (Found.None i) (Found.Tag u) p q = absurd (p .0 (q .0) (q .1 .clearPath))
-routed-once n stops s d (Found.None i) (Found.None j) p q = ap Found.None (stage-once n stops s d i j (p .1) (q .1))
-
-pub routes-once : (b : Book) (s d : ℕ) (q r : Found) → Routes b s d q → Routes b s d r → q ≡ r
-routes-once b s d q r v w = go (given-or-passed (routeChecks b s d))
-  where
-    go : ((k : ℕ) × Given k (routeChecks b s d)) ⊎ Passed (routeChecks b s d) → q ≡ r
-    go (inl g) = found-tells q r (v .refuses (g .0) (g .1) ∙ sym (w .refuses (g .0) (g .1)))
-    go (inr p) = routed-once (b .n) (stopsOf b) s d q r (v .routes p) (w .routes p)
 
 -- an action has one line, and leaves one book
 pub line-once : (n : ℕ) (b : Book) (a : Action) (x y : List ℕ) (c d : Book) → LineOf n b a x c → LineOf n b a y d → (x ≡ y) × (c ≡ d)
@@ -63,7 +31,7 @@ line-once n b (Action.Withdraw k) x y c d p q =
     let e = withdraws-once b k (p .0) (q .0) (p .1) (q .1) in
     (p .2 ∙ ap (λ (r : Kept). withdrawLine k (r .answer)) e ∙ sym (q .2), p .3 ∙ ap (λ (r : Kept). r .book) e ∙ sym (q .3))
 line-once n b (Action.Route s t) x y c d p q =
-    let e = routes-once b s t (p .0) (q .0) (p .1) (q .1) in
+    let e = route-once b s t (p .0) (q .0) (p .1) (q .1) in
     (p .2 ∙ ap (routeLine n s t) e ∙ sym (q .2), p .3 ∙ sym (q .3))
 line-once n b (Action.Refused why) x y c d p q = (p .0 ∙ sym (q .0), p .1 ∙ sym (q .1))
 
