@@ -1,23 +1,25 @@
 -- Marks grow by one notice: in its own stage it adds what it names, and in every other stage it changes nothing.
 use mathlib.Core.Path.{_≡_, refl, sym, ap, _∙_}
-use mathlib.Core.Bool.{Bool, true, false, cond}
+use mathlib.Core.Bool.{Bool, true, false, cond, _&&_}
 use mathlib.Core.List.{List, [], _∷_}
-use Prim.Native.Nat.{ℕ, _+_, _-_, _≤_, _<_}
+use Prim.Native.Nat.{ℕ, zero, suc, _+_, _-_, _≤_, _<_}
 use native.Mathlib.Decide.{ℕ-discrete}
 use native.Mathlib.Omega.{arith}
 use lib.Dec.{eqb}
+use lib.Bits.{bitAnd}
 use lib.ListN.{length, take, drop, getD, set, replicate, getD-replicate}
 use lib.Seq.{getD-set-same, getD-set-other}
 use Rattle.fabric.specs.Labels.{bit}
 use Rattle.fabric.specs.Links.{lands}
 use Rattle.book.specs.declared.Notice.{Notice}
+use Rattle.book.specs.declared.Target.the-variants.{Links, Switch, Pattern}
 use Rattle.book.specs.Targets.{names}
 use Rattle.book.specs.Standing.{stopper}
 use Rattle.book.proofs.Arrays.{next-of}
 use Rattle.paths.specs.declared.Stops.{Stops}
 use Rattle.paths.specs.Clear.{Rule}
 use Rattle.paths.specs.Frontier.{stopsFrom}
-use Rattle.router.specs.Marks.{Marked, unmarked, marksOf, marksAt}
+use Rattle.router.specs.Marks.{Marked, Unnamed, unmarked, marksOf, marksAt}
 
 -- rules that agree at a stage give the same numbers there
 rules-agree : (f g : Rule) (n i j : ℕ) (right : Bool) → ((k c : ℕ) → f i k c ≡ g i k c) → stopsFrom f n i j right ≡ stopsFrom g n i j right
@@ -56,6 +58,33 @@ module _ (n : ℕ) (x : Notice) (l : List Notice) where
           ∙ sym (rules-agree (stopper n (x ∷ l)) (stopper n l) n i (getD hs i 0) (eqb (bit i (getD hs i 0)) (bit i d))
           (λ k c. passed-over i k c (only n i k c (omega arith) f)))
 
+  -- a notice that names nothing at the two switches of its stage
+  untouched : (d i h : ℕ) (old : Stops) → Unnamed n x i h → Unnamed n x i (lands n i 2 h) → marksAt n d h x i old ≡ old
+  untouched d i h old a b = go (eqb (bit i h) (bit i d))
+    where
+      go : (right : Bool) → cond right (marksOf n x i h (lands n i 2 h) old) (marksOf n x i (lands n i 2 h) h old) ≡ old
+      go true = rw (a 0, b 1, b 2)
+      go false = rw (b 0, a 1, a 2)
+
+  -- a notice that names nothing on the way: every stage stays as it was
+  pub marked-same : (d : ℕ) (hs : List ℕ) (marks : List Stops) (stage : ℕ) → n ≤ 12
+      → ((n i j c : ℕ) → i < 12 → (i ≡ stage → ⊥) → names n (x .target) i j c ≡ false)
+      → (stage < n → Unnamed n x stage (getD hs stage 0) × Unnamed n x stage (lands n stage 2 (getD hs stage 0)))
+      → Marked n (stopper n l) d hs marks → Marked n (stopper n (x ∷ l)) d hs marks
+  marked-same d hs marks stage few only far before i b = go (ℕ-discrete i stage)
+    where
+      go : Dec (i ≡ stage) → getD marks i unmarked ≡ stopsFrom (stopper n (x ∷ l)) n i (getD hs i 0) (eqb (bit i (getD hs i 0)) (bit i d))
+      go (yes f) =
+          let h : stage < n = omega arith in
+          let old = getD marks stage unmarked in
+          rw f
+          (sym (untouched d stage (getD hs stage 0) old (far h .0) (far h .1))
+          ∙ added stage (getD hs stage 0) (eqb (bit stage (getD hs stage 0)) (bit stage d)) old (before stage h))
+      go (no f) =
+          before i b
+          ∙ sym (rules-agree (stopper n (x ∷ l)) (stopper n l) n i (getD hs i 0) (eqb (bit i (getD hs i 0)) (bit i d))
+          (λ k c. passed-over i k c (only n i k c (omega arith) f)))
+
 -- no notice marks nothing
 pub marked-none : (n d : ℕ) (hs : List ℕ) (k : ℕ) (none : Stops) → n ≤ k → none ≡ unmarked → Marked n (stopper n []) d hs (replicate k none)
 unfolding stopper
@@ -80,3 +109,28 @@ pub from-before : {A : Type 0} (count : ℕ) (l : List A) (d : A) (k : ℕ) → 
 from-before count l d k fits z h =
     let e : k - 1 + 1 ≡ k = omega arith in
     next-of count l d (k - 1) fits (omega arith) ∙ ap (λ (m : ℕ). getD l (k - 1) d ∷ drop m (take count l)) e
+
+-- where the switch is another, a target names none of its links
+middle-false : (a b c : Bool) → b ≡ false → (a && b && c) ≡ false
+middle-false true b c e = rw e
+middle-false false b c e = refl
+
+last-false : (a b : Bool) → b ≡ false → (a && b) ≡ false
+last-false true b e = e
+last-false false b e = refl
+
+-- where none of the three links lands there, no link does
+pub no-code : (n i j w : ℕ) → eqb j w ≡ false → eqb (lands n i 1 j) w ≡ false → eqb (lands n i 2 j) w ≡ false → (c : ℕ) → eqb (lands n i c j) w ≡ false
+no-code n i j w straight plus minus zero = straight
+no-code n i j w straight plus minus (suc zero) = plus
+no-code n i j w straight plus minus (suc (suc c)) = minus
+
+module _ (n : ℕ) (x : Notice) (i j : ℕ) where
+  pub unnamed-links : (stage w set : ℕ) → x .target ≡ Links stage w set → eqb j w ≡ false → Unnamed n x i j
+  unnamed-links stage w set e f c = rw e (middle-false (eqb i stage) (eqb j w) _ f)
+
+  pub unnamed-switch : (column w : ℕ) → x .target ≡ Switch column w → ((c : ℕ) → eqb (lands n i c j) w ≡ false) → Unnamed n x i j
+  unnamed-switch column w e f c = rw e (last-false (eqb (i + 1) column) (eqb (lands n i c j) w) (f c))
+
+  pub unnamed-pattern : (stage value mask set : ℕ) → x .target ≡ Pattern stage value mask set → eqb (bitAnd j mask) value ≡ false → Unnamed n x i j
+  unnamed-pattern stage value mask set e f c = rw e (middle-false (eqb i stage) (eqb (bitAnd j mask) value) _ f)

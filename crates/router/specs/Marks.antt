@@ -1,6 +1,6 @@
 -- The router's own bookkeeping: what its arrays hold. Nobody has to believe it; `Routes` is what it leads to.
 use mathlib.Core.Path.{_≡_}
-use mathlib.Core.Bool.{cond}
+use mathlib.Core.Bool.{false, cond}
 use mathlib.Core.List.{List}
 use Prim.Native.Nat.{ℕ, _<_}
 use lib.Dec.{eqb}
@@ -41,3 +41,7 @@ marksOf n x i straight fork old =
 abbrev pub marksAt : ℕ → ℕ → ℕ → Notice → ℕ → Stops → Stops
 marksAt n d h x i old =
     cond (eqb (bit i h) (bit i d)) (marksOf n x i h (lands n i 2 h) old) (marksOf n x i (lands n i 2 h) h old)
+
+-- a notice names no link that leaves a switch at a stage
+abbrev pub Unnamed : ℕ → Notice → ℕ → ℕ → Type 0
+Unnamed n x i j = (c : ℕ) → names n (x .target) i j c ≡ false

@@ -5,12 +5,14 @@ use book::Notice;
 use book::Target;
 use paths::Stops;
 ghost use mathlib.Core.Path.{_≡_};
-ghost use mathlib.Core.Bool.{false};
+ghost use mathlib.Core.Bool.{false, _||_};
 ghost use Prim.Native.Nat.{ℕ, _+_, _≤_, _<_};
+ghost use lib.Dec.{eqb};
 ghost use Rattle.fabric.specs.Labels.{size};
+ghost use Rattle.fabric.specs.Links.{lands};
 ghost use Rattle.book.specs.Targets.{names};
 ghost use Rattle.router.specs.Entries.{stopsOf};
-ghost use Rattle.router.specs.Marks.{Highs, Labels, Marked, unmarked, mark, marksOf, marksAt};
+ghost use Rattle.router.specs.Marks.{Highs, Labels, Marked, Unnamed, unmarked, mark, marksOf, marksAt};
 
 // The high switches of the columns before the last.
 pub fn highs(n: u8, source: u16, destination: u16) -> [u16; 13]
@@ -42,10 +44,12 @@ pub fn marks(book: Book, destination: u16, highs: [u16; 13]) -> [Stops; 13]
         k -= 1;
         let x = book.notices[k];
         let i = stage_of(x);
-        let old = out[i as usize];
         let high = highs[i as usize];
-        let new = with_notice(n, destination, high, old, x, i);
-        out[i as usize] = new;
+        if near(n, x, i, high) {
+            let old = out[i as usize];
+            let new = with_notice(n, destination, high, old, x, i);
+            out[i as usize] = new;
+        }
     }
     out
 }
@@ -93,6 +97,52 @@ fn stage_before(column: u8, before: u8) -> u8
         return 12;
     }
     column - before
+}
+
+// Whether a notice may name a link of stage i that leaves the high switch or the low one. Most notices do not, and leave
+// the marks as they are.
+fn near(n: u8, x: Notice, i: u8, high: u16) -> bool
+    requires { ⌜ (n ≤ 12) × (i < n → high < size n) ⌝ }
+    ensures { λ r. ⌜ (r ≡ false → i < n → Unnamed n x i high × Unnamed n x i (lands n i 2 high)) ⌝ }
+{
+    if n <= i {
+        return false;
+    }
+    let low = fabric::landing(n, i, 2, high);
+    let t = x.target;
+    match t {
+        Target::Links {
+            stage: _,
+            switch,
+            set: _,
+        } => any(high == switch, low == switch),
+        Target::Switch { column: _, switch } => any(
+            lands_on(n, i, high, switch),
+            lands_on(n, i, low, switch),
+        ),
+        Target::Pattern {
+            stage: _,
+            value,
+            mask,
+            set: _,
+        } => any(high & mask == value, low & mask == value),
+    }
+}
+
+// Whether some link of stage i leads from switch j to another.
+fn lands_on(n: u8, i: u8, j: u16, switch: u16) -> bool
+    requires { ⌜ (n ≤ 12) × (i < n) × (j < size n) ⌝ }
+    ensures { λ r. ⌜ (r ≡ false → (c : ℕ) → eqb (lands n i c j) switch ≡ false) ⌝ }
+{
+    let plus = fabric::landing(n, i, 1, j);
+    let minus = fabric::landing(n, i, 2, j);
+    any(j == switch, any(plus == switch, minus == switch))
+}
+
+fn any(a: bool, b: bool) -> bool
+    ensures { λ r. ⌜ r ≡ (a || b) ⌝ }
+{
+    if a { true } else { b }
 }
 
 // The marks of a stage with a notice more, before those that made them.

@@ -9,7 +9,7 @@ use Rattle.book.specs.declared.Notice.{Notice}
 use Rattle.book.specs.Standing.{filler, stopper}
 use Rattle.book.proofs.Arrays.{length-mapped, none-left-of}
 use Rattle.router.specs.Marks.{Marked}
-use Rattle.router.proofs.Marking.{marked-none, marked-more, from-before}
+use Rattle.router.proofs.Marking.{marked-none, marked-more, marked-same, from-before}
 use Rattle.router.proofs.marks.marks.Statement.{statement}
 use Rattle.router.proofs.marks.marks.Tie as tie
 
@@ -49,15 +49,6 @@ element-copy-out-x c = search needs
 stage-of-requires : tie.Need-stage-of-requires Inv-loop μ-loop
 stage-of-requires c κs = search needs
 
-cast-old : tie.Need-cast-old Inv-loop μ-loop
-cast-old c = search needs
-
-mul-old : tie.Need-mul-old Inv-loop μ-loop
-mul-old c = search needs
-
-array-copy-out-old : tie.Need-array-copy-out-old Inv-loop μ-loop
-array-copy-out-old c = search needs
-
 cast-high : tie.Need-cast-high Inv-loop μ-loop
 cast-high c = search needs
 
@@ -67,8 +58,20 @@ mul-high c = search needs
 array-read-high : tie.Need-array-read-high Inv-loop μ-loop
 array-read-high c = search needs
 
+near-requires : tie.Need-near-requires Inv-loop μ-loop
+near-requires c κs = (search needs, λ h. c .before .before .before .before .before .pre .2 (c .stage-of .result) h)
+
+cast-old : tie.Need-cast-old Inv-loop μ-loop
+cast-old c = search needs
+
+mul-old : tie.Need-mul-old Inv-loop μ-loop
+mul-old c = search needs
+
+array-copy-out-old : tie.Need-array-copy-out-old Inv-loop μ-loop
+array-copy-out-old c = search needs
+
 with-notice-requires : tie.Need-with-notice-requires Inv-loop μ-loop
-with-notice-requires c κs = (search needs, λ h. c .before .before .before .before .before .before .pre .2 (c .before .stage-of .result) h)
+with-notice-requires c κs = (search needs, λ h. c .before .before .before .before .before .before .before .before .pre .2 (c .before .before .before .stage-of .result) h)
 
 cast-out : tie.Need-cast-out Inv-loop μ-loop
 cast-out c = search needs
@@ -84,17 +87,36 @@ loop-less c = search needs
 
 loop-again : tie.Need-loop-again Inv-loop μ-loop
 loop-again c =
-    let a = c .before .before .before .before .before .before .before .args in
-    let v = c .before .before .before .before .before .loop in
+    let a = c .before .before .before .before .before .before .before .before .before .args in
+    let v = c .before .before .before .before .before .before .before .loop in
     let w = v .inv in
-    let stage = c .before .before .stage-of .ensures in
+    let stage = c .before .before .before .before .stage-of in
+    let new = c .with-notice .result in
     let from = from-before (a .t1 .count) (a .t1 .notices) filler (v .k) (w .1) (omega arith) (w .0) in (
       omega arith,
       w .1,
-      length-set (v .out) (c .before .before .stage-of .result) (c .with-notice .result) ∙ w .2,
+      length-set (v .out) (stage .result) new ∙ w .2,
       w .3,
-      subst (λ (l : List Notice). Marked (a .t1 .n) (stopper (a .t1 .n) l) (a .destination) (a .t3) (set (v .out) (c .before .before .stage-of .result) (c .with-notice .result))) (sym from)
-          (marked-more (a .t1 .n) _ _ (a .destination) (a .t3) (v .out) (c .before .before .stage-of .result) (c .with-notice .result) (omega arith) (omega arith) (stage .1) (c .with-notice .ensures) (w .4)),
+      subst (λ (l : List Notice). Marked (a .t1 .n) (stopper (a .t1 .n) l) (a .destination) (a .t3) (set (v .out) (stage .result) new)) (sym from)
+          (marked-more (a .t1 .n) _ _ (a .destination) (a .t3) (v .out) (stage .result) new (omega arith) (omega arith) (stage .ensures .1) (c .with-notice .ensures) (w .4)),
+    )
+
+loop-less-2 : tie.Need-loop-less-2 Inv-loop μ-loop
+loop-less-2 c = search needs
+
+loop-again-2 : tie.Need-loop-again-2 Inv-loop μ-loop
+loop-again-2 c =
+    let a = c .before .before .before .before .before .before .before .args in
+    let v = c .before .before .before .before .before .loop in
+    let w = v .inv in
+    let stage = c .before .before .stage-of in
+    let from = from-before (a .t1 .count) (a .t1 .notices) filler (v .k) (w .1) (omega arith) (w .0) in (
+      omega arith,
+      w .1,
+      w .2,
+      w .3,
+      subst (λ (l : List Notice). Marked (a .t1 .n) (stopper (a .t1 .n) l) (a .destination) (a .t3) (v .out)) (sym from)
+          (marked-same (a .t1 .n) _ _ (a .destination) (a .t3) (v .out) (stage .result) (omega arith) (stage .ensures .1) (c .before .near .ensures (c .if1 .left)) (w .4)),
     )
 
 returns : tie.Need-returns Inv-loop μ-loop
@@ -116,16 +138,19 @@ marks-spec =
     mul-x
     element-copy-out-x
     stage-of-requires
-    cast-old
-    mul-old
-    array-copy-out-old
     cast-high
     mul-high
     array-read-high
+    near-requires
+    cast-old
+    mul-old
+    array-copy-out-old
     with-notice-requires
     cast-out
     mul-out
     array-set-from-out
     loop-less
     loop-again
+    loop-less-2
+    loop-again-2
     returns)
