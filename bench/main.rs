@@ -11,7 +11,16 @@ extern "C" {
 
 const N: u32 = 12;
 const QUESTIONS: usize = 1_000_000;
+/// The questions are asked in blocks, each block by both routers in turn, and all of it several times over. A side's time is
+/// the sum of its best time for each block.
+const BLOCKS: usize = 100;
 const ROUNDS: usize = 9;
+
+fn timed(work: impl FnOnce()) -> f64 {
+    let began = Instant::now();
+    work();
+    began.elapsed().as_secs_f64()
+}
 
 /// The proved router, over the ten-byte rows of filing actions.
 fn proved(rows: &[u8], asked: &[u8], answers: &mut [u8]) {
@@ -121,15 +130,18 @@ fn main() {
 
     let mut by_proof = vec![0u8; asked.len()];
     let mut by_hand = vec![0xffu8; asked.len()];
-    let mut best = [f64::INFINITY; 2];
+    let mut best = [vec![f64::INFINITY; BLOCKS], vec![f64::INFINITY; BLOCKS]];
+    let size = asked.len() / BLOCKS;
     for _ in 0..ROUNDS {
-        let began = Instant::now();
-        proved(black_box(&rows), black_box(&asked), &mut by_proof);
-        best[0] = best[0].min(began.elapsed().as_secs_f64());
-        let began = Instant::now();
-        plain(black_box(&rows), black_box(&asked), &mut by_hand);
-        best[1] = best[1].min(began.elapsed().as_secs_f64());
+        for k in 0..BLOCKS {
+            let part = k * size..(k + 1) * size;
+            let took = timed(|| proved(black_box(&rows), black_box(&asked[part.clone()]), &mut by_proof[part.clone()]));
+            best[0][k] = best[0][k].min(took);
+            let took = timed(|| plain(black_box(&rows), black_box(&asked[part.clone()]), &mut by_hand[part.clone()]));
+            best[1][k] = best[1][k].min(took);
+        }
     }
+    let best: Vec<f64> = best.iter().map(|side| side.iter().sum()).collect();
 
     let mut diverted = 0;
     let mut none = 0;
@@ -144,7 +156,7 @@ fn main() {
             println!("from {} to {}: proved {:?}, plain {:?}", word(question), word(&question[2..]), a, b);
         }
     }
-    println!("questions {QUESTIONS} at n = {N}, {standing} notices standing, best of {ROUNDS} rounds on each side");
+    println!("questions {QUESTIONS} at n = {N}, {standing} notices standing, {BLOCKS} blocks, best of {ROUNDS} for each block");
     println!("diverted {diverted}, no path {none}, straight through {}", QUESTIONS - diverted - none);
     println!("proved {:.1} ms, {:.1} ns a route", best[0] * 1e3, best[0] * 1e9 / QUESTIONS as f64);
     println!("plain {:.1} ms, {:.1} ns a route", best[1] * 1e3, best[1] * 1e9 / QUESTIONS as f64);
