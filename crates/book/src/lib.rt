@@ -11,7 +11,9 @@ mod targets; // targets.rt: which links a target names, and when filing refuses 
 mod places; // places.rt: the notices in their places
 mod rows; // rows.rt: the listing's bytes
 
+pub use places::littered;
 pub use targets::names;
+pub use targets::unfit;
 
 // One of the three targets of a notice.
 pub enum Target {

@@ -42,7 +42,7 @@ pub fn bit_of(i: u8, j: u16) -> u8
 
 // The label 2^i above j.
 fn plus(n: u8, i: u8, j: u16) -> u16
-    requires { ⌜ (n ≤ 12) × (i < n) × (j < size n) ⌝ }
+    requires { ⌜ (n ≤ 12) × (i ≤ n) × (j < size n) ⌝ }
     ensures { λ r. ⌜ r ≡ lands n i 1 j ⌝ }
 {
     std::num::wrapping_add_u16(j, size(i)) % size(n)
@@ -50,7 +50,7 @@ fn plus(n: u8, i: u8, j: u16) -> u16
 
 // The label 2^i below j.
 fn minus(n: u8, i: u8, j: u16) -> u16
-    requires { ⌜ (n ≤ 12) × (i < n) × (j < size n) ⌝ }
+    requires { ⌜ (n ≤ 12) × (i ≤ n) × (j < size n) ⌝ }
     ensures { λ r. ⌜ r ≡ lands n i 2 j ⌝ }
 {
     std::num::wrapping_sub_u16(j, size(i)) % size(n)
@@ -58,7 +58,7 @@ fn minus(n: u8, i: u8, j: u16) -> u16
 
 // Where the link of a code lands that leaves switch j at stage i.
 pub fn landing(n: u8, i: u8, code: u8, j: u16) -> u16
-    requires { ⌜ (n ≤ 12) × (i < n) × (j < size n) ⌝ }
+    requires { ⌜ (n ≤ 12) × (i ≤ n) × (j < size n) ⌝ }
     ensures { λ r. ⌜ (r ≡ lands n i code j) × (r < size n) ⌝ }
 {
     if code == 0 {

@@ -2,4 +2,6 @@ pub mod Marking
 pub mod Promises
 pub mod Walking
 pub mod Routing
+pub mod Filing
+pub mod Besides
 pub mod Entries

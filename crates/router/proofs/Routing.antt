@@ -16,18 +16,15 @@ use Rattle.paths.proofs.Pivots.{highRight}
 use Rattle.paths.proofs.Frontier.{Holds, Found, looks-from, lesser-reached, advanced-holds, none-reached, some-reached, found-first, stage-named, none-clear}
 use Rattle.router.specs.declared.Found as answer
 use Rattle.router.specs.Entries.{Routed}
-use Rattle.router.specs.Marks.{Highs, Marked, unmarked}
+use Rattle.router.specs.Marks.{Marked, unmarked}
 
 module _ (n : ℕ) (stops : Rule) (s d : ℕ) (source : s < size n) where
-  -- one stage on, by what the arrays hold
-  pub front-on : (hs : List ℕ) (marks : List Stops) → Highs n s d hs → Marked n stops d hs marks → (i b t : ℕ) → i < n
-      → b ≡ bit i (getD hs i 0) → t ≡ bit i d → (front next : Front) → next ≡ advanced (eqb b t) t (getD marks i unmarked) i front
-      → Holds n stops s d i front → Holds n stops s d (i + 1) next
-  front-on hs marks highs marked i b t h eb et front next e held =
-      let eh = highs i h in
-      let right : highRight n s d i ≡ eqb b t = sym (ap₂ eqb (eb ∙ ap (bit i) eh) et) in
-      let look : getD marks i unmarked ≡ stopsFrom stops n i (high n s d i) (eqb b t) =
-      marked i h ∙ ap₂ (stopsFrom stops n i) eh (sym (ap₂ eqb eb et)) in
+  -- one stage on, by what the marks hold
+  pub front-on : (marks : List Stops) → Marked n stops s d marks → (i j b t : ℕ) → i < n → j ≡ high n s d i → b ≡ bit i j → t ≡ bit i d
+      → (front next : Front) → next ≡ advanced (eqb b t) t (getD marks i unmarked) i front → Holds n stops s d i front → Holds n stops s d (i + 1) next
+  front-on marks marked i j b t h ej eb et front next e held =
+      let right : highRight n s d i ≡ eqb b t = sym (ap₂ eqb (eb ∙ ap (bit i) ej) et) in
+      let look : getD marks i unmarked ≡ stopsFrom stops n i (high n s d i) (eqb b t) = marked i h ∙ ap (stopsFrom stops n i (high n s d i)) right in
       let w = advanced-holds n stops s d source i h (eqb b t) right (getD marks i unmarked) (looks-from n stops s d i (eqb b t) (getD marks i unmarked) look) front held in
       subst (λ (k : ℕ). Holds n stops s d k next) (sym (add-one i))
       (subst (Holds n stops s d (suc i)) (sym (e ∙ ap (λ (x : ℕ). advanced (eqb b t) x (getD marks i unmarked) i front) et)) w)

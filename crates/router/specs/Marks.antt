@@ -1,33 +1,33 @@
 -- The router's own bookkeeping: what its arrays hold. Nobody has to believe it; `Routes` is what it leads to.
 use mathlib.Core.Path.{_≡_}
-use mathlib.Core.Bool.{cond}
+use mathlib.Core.Bool.{Bool, cond}
 use mathlib.Core.List.{List}
-use Prim.Native.Nat.{ℕ, _<_}
+use Prim.Native.Nat.{ℕ, _≤_, _<_}
 use lib.Dec.{eqb}
+use lib.Bits.{bitAnd}
 use lib.ListN.{getD}
-use Rattle.fabric.specs.Labels.{size, bit}
+use Rattle.fabric.specs.Labels.{bit}
 use Rattle.fabric.specs.Links.{lands}
 use Rattle.paths.specs.declared.Stops.{Stops}
 use Rattle.paths.specs.Clear.{Rule}
 use Rattle.paths.specs.Frontier.{high, stopsFrom}
 use Rattle.book.specs.declared.Notice.{Notice}
+use Rattle.book.specs.declared.Target.{Target}
+use Rattle.book.specs.declared.Target.the-variants.{Links, Switch, Pattern}
 use Rattle.book.specs.Targets.{names}
 
--- the high switch of each column before the last
+-- the high switch of each column
 abbrev pub Highs : ℕ → ℕ → ℕ → List ℕ → Type 0
-Highs n s d hs = (i : ℕ) → i < n → getD hs i 0 ≡ high n s d i
-
-abbrev pub Labels : ℕ → List ℕ → Type 0
-Labels n hs = (i : ℕ) → i < n → getD hs i 0 < size n
+Highs n s d hs = (i : ℕ) → i ≤ n → getD hs i 0 ≡ high n s d i
 
 -- nothing stops the links of a stage
 abbrev pub unmarked : Stops
 unmarked = record { straight = 0; plus = 0; minus = 0 }
 
 -- what a rule stops at each stage out of the column's two switches, toward d
-abbrev pub Marked : ℕ → Rule → ℕ → List ℕ → List Stops → Type 0
-Marked n stops d hs marks =
-    (i : ℕ) → i < n → getD marks i unmarked ≡ stopsFrom stops n i (getD hs i 0) (eqb (bit i (getD hs i 0)) (bit i d))
+abbrev pub Marked : ℕ → Rule → ℕ → ℕ → List Stops → Type 0
+Marked n stops s d marks =
+    (i : ℕ) → i < n → getD marks i unmarked ≡ stopsFrom stops n i (high n s d i) (eqb (bit i (high n s d i)) (bit i d))
 
 -- one notice more, of a lower number
 abbrev pub mark : ℕ → Notice → ℕ → ℕ → ℕ → ℕ → ℕ
@@ -41,3 +41,15 @@ marksOf n x i straight fork old =
 abbrev pub marksAt : ℕ → ℕ → ℕ → Notice → ℕ → Stops → Stops
 marksAt n d h x i old =
     cond (eqb (bit i h) (bit i d)) (marksOf n x i h (lands n i 2 h) old) (marksOf n x i (lands n i 2 h) h old)
+
+-- the column of the switches that a target speaks of: those that its links leave, or that its links reach
+abbrev pub columnOf : Target → ℕ
+columnOf (Links stage switch set) = stage
+columnOf (Switch column switch) = column
+columnOf (Pattern stage value mask set) = stage
+
+-- whether it speaks of switch j there
+abbrev pub tellsOf : Target → ℕ → Bool
+tellsOf (Links stage switch set) j = eqb j switch
+tellsOf (Switch column switch) j = eqb j switch
+tellsOf (Pattern stage value mask set) j = eqb (bitAnd j mask) value

@@ -1,56 +1,35 @@
-// Which numbers stop the links that lie on ways from a source to a destination: one pass over the notices, each of which
-// is looked at in its own stage alone.
-use book::Book;
+// Which numbers stop the links that lie on ways from a source to a destination. A notice is held against the two switches of
+// its own column alone, and most notices speak of neither.
 use book::Notice;
 use book::Target;
 use paths::Stops;
 ghost use mathlib.Core.Path.{_≡_};
-ghost use mathlib.Core.Bool.{false};
+ghost use mathlib.Core.Bool.{false, cond, _||_};
 ghost use Prim.Native.Nat.{ℕ, _+_, _≤_, _<_};
+ghost use lib.Dec.{eqb};
 ghost use Rattle.fabric.specs.Labels.{size};
+ghost use Rattle.fabric.specs.Links.{lands};
 ghost use Rattle.book.specs.Targets.{names};
-ghost use Rattle.router.specs.Entries.{stopsOf};
-ghost use Rattle.router.specs.Marks.{Highs, Labels, Marked, unmarked, mark, marksOf, marksAt};
+ghost use Rattle.router.specs.Marks.{Highs, columnOf, tellsOf, unmarked, mark, marksOf, marksAt};
 
-// The high switches of the columns before the last.
+// The high switches of the columns.
 pub fn highs(n: u8, source: u16, destination: u16) -> [u16; 13]
     requires { ⌜ (n ≤ 12) × (source < size n) ⌝ }
-    ensures { λ r. ⌜ (Highs n source destination r) × (Labels n r) ⌝ }
+    ensures { λ r. ⌜ Highs n source destination r ⌝ }
 {
-    let mut out = [0u16; 13];
+    let mut out = [source; 13];
     let mut j = source;
     let mut i = 0;
     while i < n {
-        out[i as usize] = j;
         let right = fabric::bit_of(i, j) == fabric::bit_of(i, destination);
         j = fabric::landing(n, i, paths::rise(right), j);
         i += 1;
+        out[i as usize] = j;
     }
     out
 }
 
-// What the book's notices stop at each stage, from the last notice to the first. Place 12 is for those that name no link.
-pub fn marks(book: Book, destination: u16, highs: [u16; 13]) -> [Stops; 13]
-    requires { ⌜ (book .count ≤ 48) × (book .n ≤ 12) × (Labels (book .n) highs) ⌝ }
-    ensures { λ r. ⌜ Marked (book .n) (stopsOf book) destination highs r ⌝ }
-{
-    let n = book.n;
-    let none = nothing();
-    let mut out = [none; 13];
-    let mut k = book.count;
-    while 0 < k {
-        k -= 1;
-        let x = book.notices[k];
-        let i = stage_of(x);
-        let old = out[i as usize];
-        let high = highs[i as usize];
-        let new = with_notice(n, destination, high, old, x, i);
-        out[i as usize] = new;
-    }
-    out
-}
-
-fn nothing() -> Stops
+pub fn nothing() -> Stops
     ensures { λ r. ⌜ r ≡ unmarked ⌝ }
 {
     Stops {
@@ -60,8 +39,69 @@ fn nothing() -> Stops
     }
 }
 
+// The column of the switches that a notice speaks of.
+pub fn column_of(x: Notice) -> u8
+    ensures { λ r. ⌜ r ≡ columnOf (x .target) ⌝ }
+{
+    let t = x.target;
+    match t {
+        Target::Links {
+            stage,
+            switch: _,
+            set: _,
+        } => stage,
+        Target::Switch { column, switch: _ } => column,
+        Target::Pattern {
+            stage,
+            value: _,
+            mask: _,
+            set: _,
+        } => stage,
+    }
+}
+
+// Whether a notice may speak of the high switch of its column or of the low one.
+pub fn near(n: u8, x: Notice, column: u8, high: u16) -> bool
+    requires { ⌜ (n ≤ 12) × (column ≤ n) × (high < size n) ⌝ }
+    ensures { λ r. ⌜ (r ≡ false → (tellsOf (x .target) high ≡ false) × (tellsOf (x .target) (lands n column 2 high) ≡ false)) ⌝ }
+{
+    let t = x.target;
+    match t {
+        Target::Links {
+            stage: _,
+            switch,
+            set: _,
+        } => beside(n, column, high, switch),
+        Target::Switch { column: _, switch } => beside(n, column, high, switch),
+        Target::Pattern {
+            stage: _,
+            value,
+            mask,
+            set: _,
+        } => {
+            let low = fabric::landing(n, column, 2, high);
+            any(high & mask == value, low & mask == value)
+        }
+    }
+}
+
+// Whether a switch is the high one of a column or the low one: no bit of the distance is set but that of 2^i, if any.
+fn beside(n: u8, column: u8, high: u16, switch: u16) -> bool
+    requires { ⌜ (n ≤ 12) × (column ≤ n) × (high < size n) ⌝ }
+    ensures { λ r. ⌜ (r ≡ false → (eqb high switch ≡ false) × (eqb (lands n column 2 high) switch ≡ false)) ⌝ }
+{
+    let apart = std::num::wrapping_sub_u16(high, switch) % fabric::size(n);
+    apart & (65535 - fabric::size(column)) == 0
+}
+
+fn any(a: bool, b: bool) -> bool
+    ensures { λ r. ⌜ r ≡ (a || b) ⌝ }
+{
+    if a { true } else { b }
+}
+
 // The stage in which a notice names links; 12 where it names none.
-fn stage_of(x: Notice) -> u8
+pub fn stage_of(x: Notice) -> u8
     ensures { λ r. ⌜ (r ≤ 12) × ((n i j c : ℕ) → i < 12 → (i ≡ r → ⊥) → names n (x .target) i j c ≡ false) ⌝ }
 {
     let t = x.target;
@@ -96,7 +136,7 @@ fn stage_before(column: u8, before: u8) -> u8
 }
 
 // The marks of a stage with a notice more, before those that made them.
-fn with_notice(n: u8, destination: u16, high: u16, old: Stops, x: Notice, i: u8) -> Stops
+pub fn with_notice(n: u8, destination: u16, high: u16, old: Stops, x: Notice, i: u8) -> Stops
     requires { ⌜ (n ≤ 12) × (i < n → high < size n) ⌝ }
     ensures { λ r. ⌜ (i < n → r ≡ marksAt n destination high x i old) ⌝ }
 {
@@ -112,10 +152,16 @@ fn at_stage(n: u8, destination: u16, high: u16, old: Stops, x: Notice, i: u8) ->
     ensures { λ r. ⌜ r ≡ marksAt n destination high x i old ⌝ }
 {
     let low = fabric::landing(n, i, 2, high);
-    if fabric::bit_of(i, high) == fabric::bit_of(i, destination) {
-        return links(n, x, i, high, low, old);
-    }
-    links(n, x, i, low, high, old)
+    let right = fabric::bit_of(i, high) == fabric::bit_of(i, destination);
+    let straight = either(right, high, low);
+    let fork = either(right, low, high);
+    links(n, x, i, straight, fork, old)
+}
+
+fn either(first: bool, a: u16, b: u16) -> u16
+    ensures { λ r. ⌜ r ≡ cond first a b ⌝ }
+{
+    if first { a } else { b }
 }
 
 // The marks of the straight link of one switch and the nonstraight links of another, with a notice more.

@@ -1,61 +1,115 @@
 // Document 01, 'route': the first clear path, or the stage that no clear walk can cross.
 use crate::Found;
+use crate::marks::column_of;
 use crate::marks::highs;
-use crate::marks::marks;
+use crate::marks::near;
+use crate::marks::nothing;
+use crate::marks::stage_of;
+use crate::marks::with_notice;
 use book::Book;
 use paths::Stops;
 use table::Refusal;
 ghost use mathlib.Core.Path.{_≡_};
+ghost use mathlib.Core.Bool.{true, false, cond};
 ghost use Prim.Native.Nat.{_≤_, _<_};
 ghost use Rattle.fabric.specs.Labels.{size};
+ghost use Rattle.book.specs.Standing.{standing, misfiled, unsound};
 ghost use Rattle.paths.specs.Clear.{Rule};
 ghost use Rattle.router.specs.Entries.{stopsOf, Routed, Routes};
-ghost use Rattle.router.specs.Marks.{Highs, Marked};
+ghost use Rattle.router.specs.Marks.{Marked};
 
-// "route: 16, 10, 11."
+// "route: 16, 10, 11." The one pass over the notices that finds the route also finds whether one of them is misfiled, so of 16
+// only the rest is tested before it.
 pub fn route(book: Book, source: u16, destination: u16) -> Found
     ensures { λ r. ⌜ Routes book source destination r ⌝ }
 {
-    if book::unsound(book) {
+    let n = book.n;
+    if fabric::outside_sizes(n) {
         return Found::Refused(Refusal::Book);
     }
-    let n = book.n;
+    if 48 < book.count {
+        return Found::Refused(Refusal::Book);
+    }
+    if book.count < 48 {
+        if book::littered(book) {
+            return Found::Refused(Refusal::Book);
+        }
+    }
     if fabric::outside_labels(n, source) {
-        return Found::Refused(Refusal::Label);
+        return away(book);
     }
     if fabric::outside_labels(n, destination) {
-        return Found::Refused(Refusal::Label);
+        return away(book);
     }
     ahead(book, source, destination)
 }
 
-// The route over the links that the book stops.
+// The refusal of a label that is not in the fabric: 16 comes before 10.
+fn away(book: Book) -> Found
+    ensures { λ r. ⌜ r ≡ cond (unsound book) (Found.Refused Refusal.Book) (Found.Refused Refusal.Label) ⌝ }
+{
+    if book::unsound(book) {
+        return Found::Refused(Refusal::Book);
+    }
+    Found::Refused(Refusal::Label)
+}
+
+// The route over the links that the book stops, by one pass over the notices from the last to the first; 16 where one of them
+// is misfiled.
 fn ahead(book: Book, source: u16, destination: u16) -> Found
     requires { ⌜ (book .count ≤ 48) × (book .n ≤ 12) × (source < size (book .n)) × (destination < size (book .n)) ⌝ }
-    ensures { λ r. ⌜ Routed (book .n) (stopsOf book) source destination r ⌝ }
+    ensures misfiled { λ r. ⌜ (misfiled (book .n) 0 (standing book) ≡ true → r ≡ Found.Refused Refusal.Book) ⌝ }
+    ensures filed { λ r. ⌜ (misfiled (book .n) 0 (standing book) ≡ false → Routed (book .n) (stopsOf book) source destination r) ⌝ }
 {
     let n = book.n;
     let highs = highs(n, source, destination);
-    let marks = marks(book, destination, highs);
-    cross(n, source, destination, highs, marks)
+    let none = nothing();
+    let mut marks = [none; 13];
+    let mut next = 65536u32;
+    let mut k = book.count;
+    while 0 < k {
+        k -= 1;
+        let x = book.notices[k];
+        if next <= x.number as u32 {
+            return Found::Refused(Refusal::Book);
+        }
+        if book::unfit(n, x) {
+            return Found::Refused(Refusal::Book);
+        }
+        next = x.number as u32;
+        let column = column_of(x);
+        let high = highs[column as usize];
+        if near(n, x, column, high) {
+            let i = stage_of(x);
+            let old = marks[i as usize];
+            let from = highs[i as usize];
+            let new = with_notice(n, destination, from, old, x, i);
+            marks[i as usize] = new;
+        }
+    }
+    if next == 0 {
+        return Found::Refused(Refusal::Book);
+    }
+    cross(n, source, destination, marks)
 }
 
 // The frontier from the source to the last column, or to the stage where it is empty, for whatever rule the marks are of.
-fn cross(n: u8, source: u16, destination: u16, highs: [u16; 13], marks: [Stops; 13]) -> Found
+fn cross(n: u8, source: u16, destination: u16, marks: [Stops; 13]) -> Found
     requires { ⌜ (n ≤ 12) × (source < size n) × (destination < size n) ⌝ }
-    ensures { λ r. ⌜ ((stops : Rule) → Highs n source destination highs → Marked n stops destination highs marks → Routed n stops source destination r) ⌝ }
+    ensures { λ r. ⌜ ((stops : Rule) → Marked n stops source destination marks → Routed n stops source destination r) ⌝ }
 {
     let mut front = paths::at_source();
+    let mut j = source;
     let mut i = 0;
     while i < n {
-        let high = highs[i as usize];
         let stops = marks[i as usize];
         let t = fabric::bit_of(i, destination);
-        let right = fabric::bit_of(i, high) == t;
+        let right = fabric::bit_of(i, j) == t;
         front = paths::advance(front, right, t, stops, i);
         if !paths::reached(front) {
             return Found::None(i);
         }
+        j = fabric::landing(n, i, paths::rise(right), j);
         i += 1;
     }
     let high = front.high;

@@ -11,45 +11,40 @@ use Rattle.fabric.specs.Labels.{size}
 use Rattle.paths.specs.declared.Place.{Place}
 use Rattle.paths.proofs.Places.{lesser-small}
 use Rattle.paths.specs.Clear.{Rule}
-use Rattle.paths.specs.Frontier.{Small, start}
 use Rattle.paths.proofs.Frontier.{Holds, start-holds}
-use Rattle.router.specs.Marks.{Highs, Marked}
+use Rattle.paths.specs.Frontier.{Small, start, high}
+use Rattle.paths.proofs.Pivots.{high-next}
+use Rattle.router.specs.Marks.{Marked}
 use Rattle.router.proofs.Routing.{front-on, none-ahead, found-ahead}
 use Rattle.router.proofs.routes.cross.Statement.{statement}
 use Rattle.router.proofs.routes.cross.Tie as tie
 
 abbrev Inv-loop : tie.InvT-loop
-Inv-loop n source destination highs marks front₀ i₀ front i =
-    (i ≤ n) × Small i (front .high) × Small i (front .low) × ((front .high .reached || front .low .reached) ≡ true)
-    × ((stops : Rule) → Highs n source destination highs → Marked n stops destination highs marks → Holds n stops source destination i front)
+Inv-loop n source destination marks front₀ j₀ i₀ front j i =
+    (i ≤ n) × (j < size n) × (j ≡ high n source destination i) × Small i (front .high) × Small i (front .low) × ((front .high .reached || front .low .reached) ≡ true)
+    × ((stops : Rule) → Marked n stops source destination marks → Holds n stops source destination i front)
 
 abbrev μ-loop : tie.MeasureT-loop
-μ-loop n source destination highs marks front₀ i₀ front i = n - i
+μ-loop n source destination marks front₀ j₀ i₀ front j i = n - i
 
 at-source-requires : tie.Need-at-source-requires Inv-loop μ-loop
 at-source-requires c κs = search needs
 
 loop-holds : tie.Need-loop-holds Inv-loop μ-loop
+unfolding high
 loop-holds c =
     let a = c .before .args in
     let e = c .at-source .ensures in
     let small : Small 0 (start .high) = record { key = omega arith; states = omega arith } in
     let low : Small 0 (start .low) = record { key = omega arith; states = omega arith } in (
       search needs,
+      search needs,
+      refl,
       rw e small,
       rw e low,
       rw e refl,
-      λ stops highs marked. subst (Holds (a .n) stops (a .source) (a .destination) 0) (sym e) (start-holds (a .n) stops (a .source) (a .destination) (search needs)),
+      λ stops marked. subst (Holds (a .n) stops (a .source) (a .destination) 0) (sym e) (start-holds (a .n) stops (a .source) (a .destination) (search needs)),
     )
-
-cast-high : tie.Need-cast-high Inv-loop μ-loop
-cast-high c = search needs
-
-mul-high : tie.Need-mul-high Inv-loop μ-loop
-mul-high c = search needs
-
-array-read-high : tie.Need-array-read-high Inv-loop μ-loop
-array-read-high c = search needs
 
 cast-stops : tie.Need-cast-stops Inv-loop μ-loop
 cast-stops c = search needs
@@ -73,13 +68,19 @@ reached-requires : tie.Need-reached-requires Inv-loop μ-loop
 reached-requires c κs = search needs
 
 returns : tie.Need-returns Inv-loop μ-loop
-returns c = λ stops highs marked.
+returns c = λ stops marked.
     let a = c .before .before .before .before .before .before .before .before .before .args in
     let v = c .before .before .before .before .before .before .before .loop in
     let w = v .inv in
-    let held = w .4 stops highs marked in
-    let next = front-on (a .n) stops (a .source) (a .destination) (search needs) (a .t4) (a .t5) highs marked (v .i) _ _ (omega arith) (c .before .before .before .bit-of2 .ensures .0) (c .before .before .before .before .bit-of .ensures .0) (v .front) _ (c .before .before .advance .ensures .0) held in
-    none-ahead (a .n) stops (a .source) (a .destination) (search needs) (v .i) (omega arith) (v .front) _ held (w .3) next (sym (c .before .reached .ensures) ∙ not-true _ (c .if1 .taken))
+    let held = w .6 stops marked in
+    let next = front-on (a .n) stops (a .source) (a .destination) (search needs) (a .t4) marked (v .i) (v .j) _ _ (omega arith) (w .2) (c .before .before .before .bit-of2 .ensures .0) (c .before .before .before .before .bit-of .ensures .0) (v .front) _ (c .before .before .advance .ensures .0) held in
+    none-ahead (a .n) stops (a .source) (a .destination) (search needs) (v .i) (omega arith) (v .front) _ held (w .5) next (sym (c .before .reached .ensures) ∙ not-true _ (c .if1 .taken))
+
+rise-requires : tie.Need-rise-requires Inv-loop μ-loop
+rise-requires c κs = search needs
+
+landing-requires : tie.Need-landing-requires Inv-loop μ-loop
+landing-requires c κs = search needs
 
 add-i : tie.Need-add-i Inv-loop μ-loop
 add-i c = search needs
@@ -89,16 +90,19 @@ loop-less c = search needs
 
 loop-again : tie.Need-loop-again Inv-loop μ-loop
 loop-again c =
-    let a = c .before .before .before .before .before .before .before .before .before .args in
-    let v = c .before .before .before .before .before .before .before .loop in
+    let a = c .before .before .before .before .before .before .before .before .before .before .before .args in
+    let v = c .before .before .before .before .before .before .before .before .before .loop in
     let w = v .inv in
     let more = add-one (v .i) in (
       omega arith,
-      rw more (c .before .before .advance .ensures .1),
-      rw more (c .before .before .advance .ensures .2),
-      sym (c .before .reached .ensures) ∙ not-false _ (c .if1 .left),
-      λ stops highs marked.
-          front-on (a .n) stops (a .source) (a .destination) (search needs) (a .t4) (a .t5) highs marked (v .i) _ _ (omega arith) (c .before .before .before .bit-of2 .ensures .0) (c .before .before .before .before .bit-of .ensures .0) (v .front) _ (c .before .before .advance .ensures .0) (w .4 stops highs marked),
+      c .landing .ensures .1,
+      c .landing .ensures .0
+          ∙ high-next (a .n) (a .source) (a .destination) (v .i) (v .j) _ _ _ (w .2) (c .before .before .before .before .before .bit-of2 .ensures .0) (c .before .before .before .before .before .before .bit-of .ensures .0) (c .before .rise .ensures),
+      rw more (c .before .before .before .before .advance .ensures .1),
+      rw more (c .before .before .before .before .advance .ensures .2),
+      sym (c .before .before .before .reached .ensures) ∙ not-false _ (c .before .before .if1 .left),
+      λ stops marked.
+          front-on (a .n) stops (a .source) (a .destination) (search needs) (a .t4) marked (v .i) (v .j) _ _ (omega arith) (w .2) (c .before .before .before .before .before .bit-of2 .ensures .0) (c .before .before .before .before .before .before .bit-of .ensures .0) (v .front) _ (c .before .before .before .before .advance .ensures .0) (w .6 stops marked),
     )
 
 first-of-requires : tie.Need-first-of-requires Inv-loop μ-loop
@@ -109,14 +113,14 @@ joined-requires c κs =
     let a = c .before .before .before .before .before .before .args in
     let v = c .before .before .before .before .loop in
     let e : v .i ≡ a .n = omega arith in
-    let small = lesser-small (v .front .high) (v .front .low) (v .i) (c .first-of .ensures) (v .inv .1) (v .inv .2) .states in
+    let small = lesser-small (v .front .high) (v .front .low) (v .i) (c .first-of .ensures) (v .inv .3) (v .inv .4) .states in
     (search needs, search needs, subst (λ (k : ℕ). c .first-of .result .states < 2 ^ k) e small)
 
 returns-2 : tie.Need-returns-2 Inv-loop μ-loop
-returns-2 c = λ stops highs marked.
+returns-2 c = λ stops marked.
     let a = c .before .before .before .before .before .before .before .args in
     let v = c .before .before .before .before .before .loop in
-    found-ahead (a .n) stops (a .source) (a .destination) (search needs) (search needs) (v .i) _ (omega arith) (v .front) (v .inv .4 stops highs marked) (v .inv .3)
+    found-ahead (a .n) stops (a .source) (a .destination) (search needs) (search needs) (v .i) _ (omega arith) (v .front) (v .inv .6 stops marked) (v .inv .5)
     (c .joined .ensures ∙ ap (λ (p : Place). a .destination + size (a .n) * p .states) (c .before .first-of .ensures))
 
 pub cross-spec : {M : Type 1} → statement M
@@ -127,9 +131,6 @@ cross-spec =
     μ-loop
     at-source-requires
     loop-holds
-    cast-high
-    mul-high
-    array-read-high
     cast-stops
     mul-stops
     array-copy-out-stops
@@ -138,6 +139,8 @@ cross-spec =
     advance-requires
     reached-requires
     returns
+    rise-requires
+    landing-requires
     add-i
     loop-less
     loop-again
