@@ -2,11 +2,11 @@
 use mathlib.Core.Path.{_≡_, refl, sym, ap, ap₂, _∙_}
 use mathlib.Core.Logic.{_⊎_, inl, inr}
 use mathlib.Core.List.{List, [], _∷_, _++_}
-use Prim.Native.Nat.{ℕ, suc, _+_, _≤_}
+use Prim.Native.Nat.{ℕ}
 use native.Mathlib.Omega.{arith}
 use lib.ListN.{length, drop}
 use Rattle.table.specs.Numbers.{numberOf}
-use Rattle.table.specs.Reply.{Reply, Reply.accepted, Reply.refusedWith, refused}
+use Rattle.table.specs.Reply.{Reply.accepted}
 use Rattle.table.specs.Checks.{Given, Passed}
 use Rattle.table.proofs.Numbers.{number-tells}
 use Rattle.table.proofs.Checks.{given-or-passed}
@@ -16,13 +16,12 @@ use Rattle.paths.proofs.Order.{first-once}
 use Rattle.paths.proofs.Walks.{stage-once}
 use Rattle.book.specs.declared.Book.{Book}
 use Rattle.book.specs.declared.Kept.{Kept}
-use Rattle.book.specs.Entries.{Opens}
 use Rattle.book.proofs.Once.{opens-once, files-once, withdraws-once}
 use Rattle.router.specs.declared.Found.{Found}
 use Rattle.router.specs.Entries.{stopsOf, routeSays, routeChecks, Routed, Routes}
 use Rattle.sheet.specs.declared.Header.{Header}
 use Rattle.sheet.specs.declared.Action.{Action}
-use Rattle.sheet.specs.Entries.{partOf, ReadsHeader, ReadsAction}
+use Rattle.sheet.specs.Entries.{partOf}
 use Rattle.sheet.proofs.Sheets.{header-once, action-once}
 use Rattle.printed.specs.declared.Ran.{Ran}
 use Rattle.printed.specs.Text.{sheetLine, fileLine, withdrawLine, routeLine}
