@@ -1,19 +1,19 @@
 -- Theorems over the entries: no promise leaves a second answer, and the reader is the format read backward.
 use mathlib.Core.Path.{_≡_, refl, sym, ap, _∙_}
-use mathlib.Core.Bool.{false, cond, not, _||_}
+use mathlib.Core.Bool.{false, cond, not, _||_, true≢false}
 use mathlib.Core.Logic.{_⊎_, inl, inr}
-use mathlib.Core.List.{List, _++_}
+use mathlib.Core.List.{List, [], _++_}
 use Prim.Native.Nat.{ℕ, _+_, _*_, _≤_, _<_}
 use native.Mathlib.Decide.{ℕ-discrete}
 use native.Mathlib.Omega.{arith}
-use borrow.Author.Tests.{le-ltb, eqb-true, not-false, ltb-false}
+use borrow.Author.Tests.{le-ltb, eqb-true, not-false, ltb-false, eq-eqb}
 use lib.Dec.{eqb}
-use lib.ListN.{length, take, getD}
+use lib.ListN.{length, take, getD, drop, length-drop}
 use lib.Seq.{length-take-le, getD-take}
 use Rattle.table.specs.declared.Refusal.{Refusal}
 use Rattle.table.specs.Numbers.{numberOf}
 use Rattle.table.specs.Reply.{Reply.accepted, refused}
-use Rattle.table.specs.Checks.{Passed, Passed.none, Passed.passes, _below_}
+use Rattle.table.specs.Checks.{Passed, Passed.none, Passed.passes, _below_, Given, Given.here, Given.later}
 use Rattle.table.proofs.Numbers.{number-tells}
 use Rattle.table.proofs.Checks.{passed-accepts, passed-nth, neither}
 use Rattle.book.specs.declared.Target.{Target}
@@ -23,10 +23,10 @@ use Rattle.sheet.specs.declared.Header.{Header}
 use Rattle.sheet.specs.declared.There.{There}
 use Rattle.sheet.specs.declared.Action.{Action}
 use Rattle.sheet.specs.declared.Fields.{Fields}
-use Rattle.sheet.specs.Format.{word, headerBytes, sizeIn, countIn, fieldBytes, fieldsOf, bytesOf, layoutFault}
-use Rattle.sheet.specs.Entries.{headerSays, thereSays, actionSays, wrongMark, ReadsHeader, HasAction, actionChecks, ReadsAction}
+use Rattle.sheet.specs.Format.{word, headerBytes, sizeIn, countIn, fieldBytes, fieldsOf, bytesOf, layoutFault, placeOf}
+use Rattle.sheet.specs.Entries.{headerSays, thereSays, actionSays, wrongMark, ReadsHeader, HasAction, actionChecks, ReadsAction, partOf, thereChecks}
 use Rattle.sheet.proofs.Layouts.{word-read, high-written, low-written, fields-written, spells, links-bytes, switch-bytes, pattern-bytes, withdrawing-bytes, routing-bytes, filing-right, withdrawing-right, routing-right, links-right, switch-right, pattern-right}
-use Rattle.sheet.proofs.Promises.{accepted-says}
+use Rattle.sheet.proofs.Promises.{accepted-says, there-fits, there-passed, refused-given}
 
 -- an answer is known by what it says
 pub header-tells : (a b : Header) → headerSays a ≡ headerSays b → a ≡ b
@@ -197,3 +197,19 @@ header-written sheet bytes right =
     spells 8 0 (take 8 sheet) eight
     ∙ rw (first 0 (omega arith), first 1 (omega arith), first 2 (omega arith), first 3 (omega arith), first 4 (omega arith), first 5 (omega arith), first 6 (omega arith), first 7 (omega arith))
     (rw (none (at 0) 70 (f .1), none (at 1) 83 (s .1), none (at 2) 72 (h .1), three, four, high-written (at 6) (at 7) (bytes 7), low-written (at 6) (at 7) (bytes 7)))
+
+-- "A layout fault prints `ACTION REFUSED 2`.": the part of an action that is there has ten bytes, and of ten bytes the action
+-- reader refuses none by another number
+pub part-is-ten : (sheet : List ℕ) (k : ℕ) → HasAction sheet k There.Yes → length (partOf sheet k) ≡ 10
+part-is-ten sheet k r =
+    let fits = there-fits r refl .1 in
+    let long : 10 ≤ length (drop (placeOf k) sheet) = simp length-drop (omega arith) in
+    let e : take 10 (drop (placeOf k) sheet) ≡ partOf sheet k = sym (passed-accepts (λ j. []) (take 10 (drop (placeOf k) sheet)) (thereChecks sheet k) (there-passed r)) in
+    ap length (sym e) ∙ length-take-le 10 (drop (placeOf k) sheet) long
+
+pub ten-bytes-fault : (part : List ℕ) (why : Refusal) → length part ≡ 10 → ReadsAction part (Action.Refused why) → why ≡ Refusal.Layout
+ten-bytes-fault part why l r = go (refused-given (actionChecks part) part (numberOf why) (r .says))
+  where
+    go : Given (numberOf why) (actionChecks part) → why ≡ Refusal.Layout
+    go (here h e) = absurd (true≢false (sym h ∙ ap not (eq-eqb (length part) 10 l)))
+    go (later h (here g e)) = number-tells why Refusal.Layout (sym e)

@@ -60,7 +60,7 @@ pub record HasAction (sheet : List ℕ) (k : ℕ) (answer : There) : Type 0 wher
   pub says : thereSays answer ≡ checked (thereChecks sheet k) refused (Reply.accepted [])
 
 -- "A second entry returns a part only: where the first accepts, action k is handed back as those ten bytes of the sheet
--- themselves; otherwise the empty part at the sheet's front."
+-- themselves; otherwise the empty part at the sheet's front.": where in the sheet the part starts, and its bytes
 abbrev pub startOf : List ℕ → ℕ → ℕ
 startOf sheet k = checked (thereChecks sheet k) (λ j. 0) (placeOf k)
 

@@ -71,7 +71,7 @@ withdrawingFault f = someUsed (f .kind ∷ f .stage ∷ f .switch ∷ f .mask �
 abbrev pub routingFault : Fields → Bool
 routingFault f = someUsed (f .number ∷ f .kind ∷ f .stage ∷ f .set ∷ [])
 
--- `fault-is-no-action` and `action-has-no-fault` say that a fault is in exactly the bytes that no action has
+-- `no-fault-is-an-action` and `action-has-no-fault` say that a fault is in exactly the bytes that no action has
 abbrev pub layoutFault : Fields → Bool
 layoutFault f =
     cond (eqb (f .action) 1) (filingFault f) (cond (eqb (f .action) 2) (withdrawingFault f) (cond (eqb (f .action) 3) (routingFault f) true))

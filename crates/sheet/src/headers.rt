@@ -91,7 +91,8 @@ pub fn has_action(sheet: &[u8], k: usize) -> There
 
 // "action k is handed back as those ten bytes of the sheet themselves; otherwise the empty part at the sheet's front."
 pub fn action_part<'a>(sheet: &'a [u8], k: usize) -> &'a [u8]
-    ensures { λ r. ⌜ (now r ≡ partOf (now (sheet .entry)) k) × (r .ptr .0 ≡ sheet .entry .ptr .0) × (r .ptr .1 ≡ startOf (now (sheet .entry)) k + sheet .entry .ptr .1) ⌝ }
+    ensures { λ r. ⌜ now r ≡ partOf (now (sheet .entry)) k ⌝ }
+    ensures { λ r. ⌜ (r .ptr .0 ≡ sheet .entry .ptr .0) × (r .ptr .1 ≡ startOf (now (sheet .entry)) k + sheet .entry .ptr .1) ⌝ }
 {
     match has_action(sheet, k) {
         There::Yes => {

@@ -1,3 +1,4 @@
+-- The line of each action, as the action reader reads it.
 use borrow.Author.Needs.{needs}
 use Rattle.printed.proofs.Promises.{line-read}
 use Rattle.printed.proofs.lines.action_line.Statement.{statement}

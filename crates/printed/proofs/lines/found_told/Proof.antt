@@ -1,3 +1,4 @@
+-- A case for each answer.
 use native.Mathlib.Omega.{arith}
 use borrow.Author.Needs.{needs}
 use Rattle.printed.proofs.lines.found_told.Statement.{statement}

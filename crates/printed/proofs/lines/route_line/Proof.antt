@@ -1,3 +1,4 @@
+-- The word, the two labels and the answer, one after the other; the book stays.
 use mathlib.Core.Path.{refl}
 use native.Mathlib.Omega.{arith}
 use borrow.Author.Needs.{needs}

@@ -1,3 +1,4 @@
+-- Two words and a number, one after the other.
 use native.Mathlib.Omega.{arith}
 use borrow.Author.Needs.{needs}
 use Rattle.printed.proofs.Writing.{wrote-more}

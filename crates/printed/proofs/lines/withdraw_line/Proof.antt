@@ -1,3 +1,4 @@
+-- The word, the number and the answer, one after the other; the book is the one that withdrawing hands back.
 use mathlib.Core.Path.{refl}
 use native.Mathlib.Omega.{arith}
 use borrow.Author.Needs.{needs}

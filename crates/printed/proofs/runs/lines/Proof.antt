@@ -1,3 +1,4 @@
+-- After k turns the lines of the first k actions lie in their places, and the book is the one after them.
 use mathlib.Core.Path.{_≡_, refl, _∙_}
 use mathlib.Core.List.{[], _++_}
 use Prim.Native.Nat.{_+_, _-_, _*_, _≤_}

@@ -1,3 +1,4 @@
+-- The header's answer says which text is printed.
 use borrow.Author.Needs.{needs}
 use Rattle.printed.proofs.Promises.{few-stages, runs-as}
 use Rattle.printed.proofs.runs.run.Statement.{statement}

@@ -1,3 +1,4 @@
+-- The word and two numbers, one after the other.
 use native.Mathlib.Omega.{arith}
 use borrow.Author.Needs.{needs}
 use Rattle.printed.proofs.Writing.{wrote-more}

@@ -1,3 +1,4 @@
+-- The first line, and the lines after it.
 use mathlib.Core.Path.{refl}
 use native.Mathlib.Omega.{arith}
 use borrow.Author.Needs.{needs}

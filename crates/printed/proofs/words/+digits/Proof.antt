@@ -1,3 +1,4 @@
+-- The digits of x / 10, and the last digit after them: `decimal-more`.
 use mathlib.Core.Path.{ap}
 use Prim.Native.Nat.{ℕ, _+_, _%_, _≤_, _<_}
 use native.Mathlib.Omega.{arith}

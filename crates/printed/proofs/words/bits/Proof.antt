@@ -1,3 +1,4 @@
+-- After i turns the first i bits lie in their places: `paste` of length i.
 use mathlib.Core.Path.{_≡_, refl, ap, _∙_}
 use Prim.Native.Nat.{ℕ, _+_, _-_, _≤_}
 use native.Mathlib.Nat.{zero-add}

@@ -1,3 +1,4 @@
+-- A number of 16 bits has at most five digits.
 use native.Mathlib.Omega.{arith}
 use borrow.Author.Needs.{needs}
 use Rattle.printed.proofs.Decimals.{at-most-five}

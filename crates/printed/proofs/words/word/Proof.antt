@@ -1,3 +1,4 @@
+-- After j turns the first j bytes lie in their places: `paste` of length j.
 use mathlib.Core.Path.{_≡_, refl, _∙_}
 use Prim.Native.Nat.{_-_, _≤_}
 use native.Mathlib.Numerals.{add-one}

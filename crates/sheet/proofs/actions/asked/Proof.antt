@@ -1,3 +1,4 @@
+-- What fields without a fault say of each action.
 use mathlib.Core.Path.{ap}
 use borrow.Author.Needs.{needs}
 use Rattle.table.specs.Reply.{Reply.accepted}
@@ -12,10 +13,17 @@ returns : tie.Need-returns
 returns c = search needs
 
 returns-2 : tie.Need-returns-2
-returns-2 c = ap accepted (withdrawing-bytes (c .before .before .before .before .args .f) (c .if2 .taken) (withdrawing-right (c .before .before .before .before .args .f) (c .if2 .taken) (c .before .before .before .before .pre)))
+returns-2 c =
+    let start = c .before .before .before .before in
+    let f = start .args .f in
+    ap accepted (withdrawing-bytes f (c .if2 .taken) (withdrawing-right f (c .if2 .taken) (start .pre)))
 
 returns-3 : tie.Need-returns-3
-returns-3 c = let h = routing-right (c .before .before .before .before .args .f) (c .before .before .if1 .left) (c .if2 .left) (c .before .before .before .before .pre) in ap accepted (routing-bytes (c .before .before .before .before .args .f) (h .0) (h .1))
+returns-3 c =
+    let start = c .before .before .before .before in
+    let f = start .args .f in
+    let h = routing-right f (c .before .before .if1 .left) (c .if2 .left) (start .pre) in
+    ap accepted (routing-bytes f (h .0) (h .1))
 
 pub asked-spec : {M : Type 1} → statement M
 asked-spec = tie.close (tie.spec filed-requires returns returns-2 returns-3)

@@ -1,3 +1,4 @@
+-- The fields are where the format has them, and their bytes are the part: `fields-written`.
 use native.Mathlib.Omega.{arith}
 use borrow.Author.Needs.{needs}
 use Rattle.sheet.proofs.Layouts.{fields-written}
@@ -26,7 +27,13 @@ shared-slice-read-t12 : tie.Need-shared-slice-read-t12
 shared-slice-read-t12 c = search needs
 
 returns : tie.Need-returns
-returns c = (rw (c .before .before .before .before .before .word-at .ensures, c .before .before .word-at2 .ensures, c .before .word-at3 .ensures), rw (c .before .before .before .before .before .word-at .ensures, c .before .before .word-at2 .ensures, c .before .word-at3 .ensures) (fields-written (c .before .before .before .before .before .before .before .before .args .part .now) (c .before .before .before .before .before .before .before .before .pre) (λ i. let h = c .shared-slice-known5 .given i in omega arith)))
+returns c =
+    let start = c .before .before .before .before .before .before .before .before in
+    let number = c .before .before .before .before .before .word-at .ensures in
+    let switch = c .before .before .word-at2 .ensures in
+    let mask = c .before .word-at3 .ensures in
+    let bytes = c .shared-slice-known5 .given in
+    (rw (number, switch, mask), rw (number, switch, mask) (fields-written (start .args .part .now) (start .pre) (λ i. let h = bytes i in omega arith)))
 
 pub fields-spec : {M : Type 1} → statement M
 fields-spec =

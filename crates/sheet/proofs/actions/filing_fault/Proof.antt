@@ -1,3 +1,4 @@
+-- A case for each kind; any other is unknown.
 use mathlib.Core.Bool.{or-false}
 use borrow.Author.Tests.{eq-eqb, ne-eqb}
 use borrow.Author.Needs.{needs}

@@ -1,3 +1,4 @@
+-- A case for each action; any other is unknown.
 use borrow.Author.Tests.{eq-eqb, ne-eqb}
 use borrow.Author.Needs.{needs}
 use Rattle.sheet.proofs.actions.layout_fault.Statement.{statement}

@@ -1,3 +1,4 @@
+-- Fields of kind 1 without a mask are the bytes of links.
 use mathlib.Core.Path.{ap}
 use Rattle.table.specs.Reply.{Reply.accepted}
 use Rattle.sheet.proofs.Layouts.{links-bytes}

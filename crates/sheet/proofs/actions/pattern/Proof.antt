@@ -1,3 +1,4 @@
+-- Fields of kind 3 are the bytes of a pattern.
 use mathlib.Core.Path.{ap}
 use Rattle.table.specs.Reply.{Reply.accepted}
 use Rattle.sheet.proofs.Layouts.{pattern-bytes}

@@ -1,3 +1,4 @@
+-- The four tests are those of the definition, grouped by twos.
 use mathlib.Core.Bool.{or-assoc, or-false}
 use borrow.Author.Needs.{needs}
 use Rattle.sheet.proofs.actions.routing_fault.Statement.{statement}

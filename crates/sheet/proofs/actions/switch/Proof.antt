@@ -1,3 +1,4 @@
+-- Fields of kind 2 without mask and set are the bytes of a switch.
 use mathlib.Core.Path.{ap}
 use Rattle.table.specs.Reply.{Reply.accepted}
 use Rattle.sheet.proofs.Layouts.{switch-bytes}

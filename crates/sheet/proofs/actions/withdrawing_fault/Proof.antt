@@ -1,3 +1,4 @@
+-- The five tests are those of the definition, grouped: `grouped`.
 use mathlib.Core.Bool.{not}
 use borrow.Author.Needs.{needs}
 use lib.Dec.{eqb}
@@ -18,7 +19,13 @@ either-requires-4 : tie.Need-either-requires-4
 either-requires-4 c κs = search needs
 
 returns : tie.Need-returns
-returns c = rw (c .either4 .ensures, c .before .either3 .ensures, c .before .before .before .before .either2 .ensures, c .before .before .before .before .before .either .ensures) (grouped (not (eqb (c .before .before .before .before .before .before .before .before .before .args .f .kind) 0)) (not (eqb (c .before .before .before .before .before .before .before .before .before .args .f .stage) 0)) (not (eqb (c .before .before .before .before .before .before .before .before .before .args .f .switch) 0)) (not (eqb (c .before .before .before .before .before .before .before .before .before .args .f .mask) 0)) (not (eqb (c .before .before .before .before .before .before .before .before .before .args .f .set) 0)))
+returns c =
+    let f = c .before .before .before .before .before .before .before .before .before .args .f in
+    let stage = c .before .before .before .before .before .either .ensures in
+    let kind = c .before .before .before .before .either2 .ensures in
+    let rest = c .before .either3 .ensures in
+    rw (c .either4 .ensures, rest, kind, stage)
+    (grouped (not (eqb (f .kind) 0)) (not (eqb (f .stage) 0)) (not (eqb (f .switch) 0)) (not (eqb (f .mask) 0)) (not (eqb (f .set) 0)))
 
 pub withdrawing-fault-spec : {M : Type 1} → statement M
 withdrawing-fault-spec =

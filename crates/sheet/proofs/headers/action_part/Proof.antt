@@ -1,3 +1,4 @@
+-- An action that is there lies within the sheet: `there-fits`.
 use mathlib.Core.Path.{refl, ap}
 use Prim.Native.Nat.{ℕ, _+_}
 use native.Mathlib.Omega.{arith}
@@ -46,13 +47,13 @@ returns : tie.Need-returns
 returns c =
     let r = c .before .before .before .has-action .ensures in
     let yes = c .before .enum-told .given .1 in
-    (part-there r yes, refl, ap (λ (j : ℕ). j + c .before .before .before .before .before .args .sheet .ptr .1) (start-there r yes))
+    (part-there r yes, (refl, ap (λ (j : ℕ). j + c .before .before .before .before .before .args .sheet .ptr .1) (start-there r yes)))
 
 returns-2 : tie.Need-returns-2
 returns-2 c =
     let r = c .before .before .before .has-action .ensures in
     let refused = c .before .enum-told2 .given .1 in
-    (part-nowhere r refused, refl, ap (λ (j : ℕ). j + c .before .before .before .before .before .args .sheet .ptr .1) (start-nowhere r refused))
+    (part-nowhere r refused, (refl, ap (λ (j : ℕ). j + c .before .before .before .before .before .args .sheet .ptr .1) (start-nowhere r refused)))
 
 pub action-part-spec : {M : Type 1} → statement M
 action-part-spec =

@@ -1,3 +1,4 @@
+-- The header's number, or 13, or neither.
 use borrow.Author.Needs.{needs}
 use Rattle.sheet.proofs.Promises.{there-by-header, there-beyond, there-yes}
 use Rattle.sheet.proofs.headers.has_action.Statement.{statement}

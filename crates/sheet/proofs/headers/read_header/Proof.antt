@@ -1,3 +1,4 @@
+-- Each refusal is the number of the first check that holds.
 use native.Mathlib.Omega.{arith}
 use borrow.Author.Needs.{needs}
 use Rattle.table.proofs.Checks.{refusing, accepting}

@@ -1,3 +1,4 @@
+-- The two tests are those of the definition, over the count that was read.
 use borrow.Author.Tests.{lt-ltb, le-ltb}
 use borrow.Author.Needs.{needs}
 use Rattle.sheet.proofs.headers.wrong_length.Statement.{statement}

@@ -1,3 +1,4 @@
+-- The five tests are those of the definition.
 use mathlib.Core.Bool.{true≢false}
 use borrow.Author.Tests.{lt-ltb, le-ltb, eq-eqb, ne-eqb}
 use borrow.Author.Needs.{needs}
@@ -17,19 +18,31 @@ shared-slice-read-if3 : tie.Need-shared-slice-read-if3
 shared-slice-read-if3 c = search needs
 
 returns-3 : tie.Need-returns-3
-returns-3 c = (rw (le-ltb _ _ (c .before .before .before .before .if1 .left), eq-eqb _ _ (c .before .before .if2 .left), ne-eqb _ _ (c .if3 .taken)), λ e. absurd (true≢false e))
+returns-3 c =
+    let long = c .before .before .before .before .if1 .left in
+    let f = c .before .before .if2 .left in
+    (rw (le-ltb _ _ long, eq-eqb _ _ f, ne-eqb _ _ (c .if3 .taken)), λ e. absurd (true≢false e))
 
 shared-slice-read-if4 : tie.Need-shared-slice-read-if4
 shared-slice-read-if4 c = search needs
 
 returns-4 : tie.Need-returns-4
-returns-4 c = (rw (le-ltb _ _ (c .before .before .before .before .before .before .if1 .left), eq-eqb _ _ (c .before .before .before .before .if2 .left), eq-eqb _ _ (c .before .before .if3 .left), ne-eqb _ _ (c .if4 .taken)), λ e. absurd (true≢false e))
+returns-4 c =
+    let long = c .before .before .before .before .before .before .if1 .left in
+    let f = c .before .before .before .before .if2 .left in
+    let s = c .before .before .if3 .left in
+    (rw (le-ltb _ _ long, eq-eqb _ _ f, eq-eqb _ _ s, ne-eqb _ _ (c .if4 .taken)), λ e. absurd (true≢false e))
 
 word-at-requires : tie.Need-word-at-requires
 word-at-requires c κs = search needs
 
 returns-5 : tie.Need-returns-5
-returns-5 c = (rw (le-ltb _ _ (c .before .before .before .before .before .before .before .if1 .left), eq-eqb _ _ (c .before .before .before .before .before .if2 .left), eq-eqb _ _ (c .before .before .before .if3 .left), eq-eqb _ _ (c .before .if4 .left), c .word-at .ensures), λ e. c .before .before .before .before .before .before .before .if1 .left)
+returns-5 c =
+    let long = c .before .before .before .before .before .before .before .if1 .left in
+    let f = c .before .before .before .before .before .if2 .left in
+    let s = c .before .before .before .if3 .left in
+    let h = c .before .if4 .left in
+    (rw (le-ltb _ _ long, eq-eqb _ _ f, eq-eqb _ _ s, eq-eqb _ _ h, c .word-at .ensures), λ e. long)
 
 pub wrong-mark-spec : {M : Type 1} → statement M
 wrong-mark-spec =
