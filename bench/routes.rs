@@ -1,6 +1,8 @@
 //! Asks the proved router and the plain one the same million questions, sees that they agree, and prints both times.
 mod plain;
+mod questions;
 
+use questions::{filings, Numbers, Pool, N};
 use std::hint::black_box;
 use std::time::Instant;
 
@@ -9,7 +11,6 @@ extern "C" {
     fn bench_routes(n: u8, rows: *const u8, rows_len: usize, asked: *const u8, asked_len: usize, answers: *mut u8, answers_len: usize) -> bool;
 }
 
-const N: u32 = 12;
 const QUESTIONS: usize = 1_000_000;
 /// The questions are asked in blocks, each block by both routers in turn, and all of it several times over. A side's time is
 /// the sum of its best time for each block.
@@ -51,72 +52,8 @@ fn plain(rows: &[u8], asked: &[u8], answers: &mut [u8]) {
     }
 }
 
-/// A fixed sequence of numbers (xorshift).
-struct Numbers(u64);
-
-impl Numbers {
-    fn below(&mut self, bound: u32) -> u32 {
-        self.0 ^= self.0 << 13;
-        self.0 ^= self.0 >> 7;
-        self.0 ^= self.0 << 17;
-        ((self.0 >> 32) as u32) % bound
-    }
-}
-
-/// The labels that are asked for: a few dozen sources and destinations, so that 48 notices can be dense around their routes.
-struct Pool {
-    sources: Vec<u32>,
-    destinations: Vec<u32>,
-}
-
-impl Pool {
-    fn new(numbers: &mut Numbers) -> Pool {
-        let mut labels = |k: usize| (0..k).map(|_| numbers.below(1 << N)).collect::<Vec<u32>>();
-        Pool { sources: labels(24), destinations: labels(24) }
-    }
-
-    fn question(&self, numbers: &mut Numbers) -> (u32, u32) {
-        let s = self.sources[numbers.below(self.sources.len() as u32) as usize];
-        let d = self.destinations[numbers.below(self.destinations.len() as u32) as usize];
-        (s, d)
-    }
-}
-
-fn action(number: u32, kind: u8, stage: u32, switch: u32, mask: u32, set: u32) -> [u8; 10] {
-    let (x, j, m) = ((number as u16).to_be_bytes(), (switch as u16).to_be_bytes(), (mask as u16).to_be_bytes());
-    [1, x[0], x[1], kind, stage as u8, j[0], j[1], m[0], m[1], set as u8]
-}
-
-/// 48 filings, a third of each kind, each on a switch that some asked route can meet.
-fn filings(pool: &Pool, numbers: &mut Numbers) -> Vec<u8> {
-    let size = 1 << N;
-    let mut rows = Vec::new();
-    for k in 0..48 {
-        let (s, d) = pool.question(numbers);
-        let i = numbers.below(N);
-        let near = |i: u32, below: bool| {
-            let step = 1 << i;
-            (s + (d + size - s) % step + if below { size - step } else { 0 }) % size
-        };
-        let below = numbers.below(2) == 1;
-        let row = match k % 3 {
-            0 => action(1000 - k, 1, i, near(i, below), 0, 1 + numbers.below(7)),
-            1 => action(1000 - k, 2, i + 1, near(i + 1, below), 0, 0),
-            _ => {
-                let mut mask = 0u32;
-                while mask.count_ones() < 4 {
-                    mask |= 1 << numbers.below(N);
-                }
-                action(1000 - k, 3, i, near(i, below) & mask, mask, 1 << numbers.below(3))
-            }
-        };
-        rows.extend(row);
-    }
-    rows
-}
-
 fn main() {
-    let mut numbers = Numbers(0x9E37_79B9_7F4A_7C15);
+    let mut numbers = Numbers::fixed();
     let pool = Pool::new(&mut numbers);
     let rows = filings(&pool, &mut numbers);
     let mut asked = Vec::with_capacity(4 * QUESTIONS);

@@ -1,0 +1,191 @@
+//! A runner of sheets in plain Rust, written for speed from document 01 alone and sharing nothing with the proved one.
+use crate::plain::{route, Answer, Target};
+
+const STANDING: usize = 48;
+
+struct Book {
+    n: u32,
+    numbers: Vec<u16>,
+    targets: Vec<Target>,
+}
+
+fn word(high: u8, low: u8) -> u16 {
+    u16::from_be_bytes([high, low])
+}
+
+impl Book {
+    fn refusal(&self, number: u16, target: Target) -> Option<u8> {
+        let size = 1u32 << self.n;
+        let bad_set = |set: u8| set < 1 || set > 7;
+        let (outside, bad, wide) = match target {
+            Target::Links { stage, switch, set } => (stage as u32 >= self.n || switch as u32 >= size, bad_set(set), false),
+            Target::Switch { column, switch } => (column as u32 > self.n || switch as u32 >= size, false, false),
+            Target::Pattern { stage, value, mask, set } => {
+                (stage as u32 >= self.n, bad_set(set) || mask as u32 >= size || value & mask != value, mask.count_ones() < 2)
+            }
+        };
+        match () {
+            _ if number == 0 => Some(3),
+            _ if outside => Some(4),
+            _ if bad => Some(5),
+            _ if wide => Some(6),
+            _ if self.numbers.contains(&number) => Some(7),
+            _ if self.numbers.len() == STANDING => Some(8),
+            _ => None,
+        }
+    }
+
+    fn file(&mut self, number: u16, target: Target) -> Option<u8> {
+        let refusal = self.refusal(number, target);
+        if refusal.is_none() {
+            self.numbers.push(number);
+            self.targets.push(target);
+        }
+        refusal
+    }
+
+    fn withdraw(&mut self, number: u16) -> Option<u8> {
+        if number == 0 {
+            return Some(3);
+        }
+        match self.numbers.iter().position(|&x| x == number) {
+            Some(k) => {
+                self.numbers.swap_remove(k);
+                self.targets.swap_remove(k);
+                None
+            }
+            None => Some(9),
+        }
+    }
+}
+
+struct Text<'a> {
+    memory: &'a mut [u8],
+    at: usize,
+}
+
+impl Text<'_> {
+    fn say(&mut self, bytes: &[u8]) {
+        self.memory[self.at..self.at + bytes.len()].copy_from_slice(bytes);
+        self.at += bytes.len();
+    }
+
+    fn number(&mut self, mut x: u16) {
+        let mut digits = [0u8; 5];
+        let mut first = 5;
+        loop {
+            first -= 1;
+            digits[first] = b'0' + (x % 10) as u8;
+            x /= 10;
+            if x == 0 {
+                break;
+            }
+        }
+        self.say(&digits[first..]);
+    }
+
+    fn told(&mut self, refusal: Option<u8>) {
+        match refusal {
+            None => self.say(b" OK\n"),
+            Some(k) => self.refused(k),
+        }
+    }
+
+    fn refused(&mut self, k: u8) {
+        self.say(b" REFUSED ");
+        self.number(k as u16);
+        self.say(b"\n");
+    }
+
+    fn tag(&mut self, n: u32, tag: u32) {
+        self.say(b" TAG ");
+        let bits = 2 * n as usize;
+        for (i, byte) in self.memory[self.at..self.at + bits].iter_mut().enumerate() {
+            *byte = b'0' + (tag >> i & 1) as u8;
+        }
+        self.at += bits;
+        self.say(b"\n");
+    }
+}
+
+fn header(sheet: &[u8]) -> Result<(u32, u16), u8> {
+    if sheet.len() < 8 || sheet[..5] != *b"FSH\0\x01" {
+        return Err(14);
+    }
+    let count = word(sheet[6], sheet[7]);
+    if !(1..=12).contains(&sheet[5]) {
+        return Err(1);
+    }
+    if count > 4096 || sheet.len() != 8 + 10 * count as usize {
+        return Err(15);
+    }
+    Ok((sheet[5] as u32, count))
+}
+
+fn filing(p: &[u8]) -> Option<Target> {
+    let (stage, switch, mask, set) = (p[4], word(p[5], p[6]), word(p[7], p[8]), p[9]);
+    match p[3] {
+        1 if mask == 0 => Some(Target::Links { stage, switch, set }),
+        2 if mask == 0 && set == 0 => Some(Target::Switch { column: stage, switch }),
+        3 => Some(Target::Pattern { stage, value: switch, mask, set }),
+        _ => None,
+    }
+}
+
+fn line(book: &mut Book, p: &[u8], text: &mut Text) {
+    let number = word(p[1], p[2]);
+    if p[0] == 1 {
+        if let Some(target) = filing(p) {
+            text.say(b"FILE ");
+            text.number(number);
+            return text.told(book.file(number, target));
+        }
+    } else if p[0] == 2 && p[3..].iter().all(|&x| x == 0) {
+        text.say(b"WITHDRAW ");
+        text.number(number);
+        return text.told(book.withdraw(number));
+    } else if p[0] == 3 && number == 0 && p[3] == 0 && p[4] == 0 && p[9] == 0 {
+        return route_line(book, word(p[5], p[6]), word(p[7], p[8]), text);
+    }
+    text.say(b"ACTION");
+    text.refused(2);
+}
+
+fn route_line(book: &Book, source: u16, destination: u16, text: &mut Text) {
+    text.say(b"ROUTE ");
+    text.number(source);
+    text.say(b" ");
+    text.number(destination);
+    if source >> book.n != 0 || destination >> book.n != 0 {
+        return text.refused(10);
+    }
+    match route(book.n, &book.targets, source as u32, destination as u32) {
+        Answer::Tag(tag) => text.tag(book.n, tag),
+        Answer::None(stage) => {
+            text.say(b" NONE ");
+            text.number(stage as u16);
+            text.say(b"\n");
+        }
+    }
+}
+
+/// Runs a sheet into memory that is long enough, and answers how many bytes it wrote.
+pub fn run(sheet: &[u8], memory: &mut [u8]) -> usize {
+    let mut text = Text { memory, at: 0 };
+    text.say(b"SHEET");
+    match header(sheet) {
+        Err(k) => text.refused(k),
+        Ok((n, count)) => {
+            let mut book = Book { n, numbers: Vec::with_capacity(STANDING), targets: Vec::with_capacity(STANDING) };
+            text.say(b" ");
+            text.number(n as u16);
+            text.say(b" ");
+            text.number(count);
+            text.say(b"\n");
+            for part in sheet[8..].chunks_exact(10) {
+                line(&mut book, part, &mut text);
+            }
+        }
+    }
+    text.at
+}

@@ -1,0 +1,66 @@
+//! Runs one full sheet by the proved program's function and by a plain one, sees that the bytes printed agree, and prints both
+//! times. The sheet: 48 filings, 4,046 routes, and a withdrawal and a new filing in their midst.
+mod plain;
+mod plain_sheet;
+mod questions;
+
+use questions::{action, filings, Numbers, Pool, N};
+use std::hint::black_box;
+use std::time::Instant;
+
+extern "C" {
+    fn bench_sheet(sheet: *const u8, sheet_len: usize, memory: *mut u8, memory_len: usize) -> usize;
+}
+
+const COUNT: usize = 4096;
+const ROOM: usize = 24 + 48 * COUNT;
+const ROUNDS: usize = 400;
+
+fn proved(sheet: &[u8], memory: &mut [u8]) -> usize {
+    unsafe { bench_sheet(sheet.as_ptr(), sheet.len(), memory.as_mut_ptr(), memory.len()) }
+}
+
+fn full_sheet() -> Vec<u8> {
+    let mut numbers = Numbers::fixed();
+    let pool = Pool::new(&mut numbers);
+    let rows = filings(&pool, &mut numbers);
+    let mut sheet = b"FSH\0\x01".to_vec();
+    sheet.push(N as u8);
+    sheet.extend((COUNT as u16).to_be_bytes());
+    sheet.extend(&rows);
+    for k in 48..COUNT {
+        match k {
+            2000 => sheet.extend([2, rows[1], rows[2], 0, 0, 0, 0, 0, 0, 0]),
+            2001 => sheet.extend(&rows[..10]),
+            _ => {
+                let (s, d) = pool.question(&mut numbers);
+                sheet.extend(action(3, 0, 0, 0, s, d, 0));
+            }
+        }
+    }
+    sheet
+}
+
+fn main() {
+    let sheet = full_sheet();
+    let mut memory = [vec![0u8; ROOM], vec![0xffu8; ROOM]];
+    let mut best = [f64::INFINITY; 2];
+    let mut wrote = [0; 2];
+    for _ in 0..ROUNDS {
+        for (side, run) in [proved, plain_sheet::run].into_iter().enumerate() {
+            let began = Instant::now();
+            wrote[side] = run(black_box(&sheet), &mut memory[side]);
+            best[side] = best[side].min(began.elapsed().as_secs_f64());
+        }
+    }
+    println!("a sheet of {COUNT} actions at n = {N}, 48 notices standing, best of {ROUNDS} runs");
+    println!("proved {:.1} us a sheet", best[0] * 1e6);
+    println!("plain {:.1} us a sheet", best[1] * 1e6);
+    println!("ratio {:.2}", best[0] / best[1]);
+    if memory[0][..wrote[0]] == memory[1][..wrote[1]] {
+        println!("agree on {} bytes", wrote[0]);
+    } else {
+        println!("the bytes printed differ");
+        std::process::exit(1);
+    }
+}
