@@ -4,3 +4,4 @@ pub mod Walking
 pub mod Routing
 pub mod Filing
 pub mod Besides
+pub mod Apart
