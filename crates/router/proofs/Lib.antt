@@ -5,3 +5,4 @@ pub mod Routing
 pub mod Filing
 pub mod Besides
 pub mod Entries
+pub mod Apart

@@ -1,11 +1,10 @@
 -- The frontier over a book's marks: one stage on, empty, and at its end.
-use mathlib.Core.Path.{_≡_, sym, ap, ap₂, subst, _∙_}
-use mathlib.Core.Bool.{true, false, _||_}
+use mathlib.Core.Path.{_≡_, sym, ap, subst, _∙_}
+use mathlib.Core.Bool.{Bool, true, false, _||_}
 use mathlib.Core.List.{List}
 use Prim.Native.Nat.{ℕ, suc, _+_, _*_, _<_}
 use native.Mathlib.Numerals.{add-one}
 use native.Mathlib.Omega.{arith}
-use lib.Dec.{eqb}
 use lib.ListN.{getD}
 use Rattle.fabric.specs.Labels.{size, bit}
 use Rattle.paths.specs.declared.Front.{Front}
@@ -20,14 +19,13 @@ use Rattle.router.specs.Marks.{Marked, unmarked}
 
 module _ (n : ℕ) (stops : Rule) (s d : ℕ) (source : s < size n) where
   -- one stage on, by what the marks hold
-  pub front-on : (marks : List Stops) → Marked n stops s d marks → (i j b t : ℕ) → i < n → j ≡ high n s d i → b ≡ bit i j → t ≡ bit i d
-      → (front next : Front) → next ≡ advanced (eqb b t) t (getD marks i unmarked) i front → Holds n stops s d i front → Holds n stops s d (i + 1) next
-  front-on marks marked i j b t h ej eb et front next e held =
-      let right : highRight n s d i ≡ eqb b t = sym (ap₂ eqb (eb ∙ ap (bit i) ej) et) in
-      let look : getD marks i unmarked ≡ stopsFrom stops n i (high n s d i) (eqb b t) = marked i h ∙ ap (stopsFrom stops n i (high n s d i)) right in
-      let w = advanced-holds n stops s d source i h (eqb b t) right (getD marks i unmarked) (looks-from n stops s d i (eqb b t) (getD marks i unmarked) look) front held in
+  pub front-on : (marks : List Stops) → Marked n stops s d marks → (i t : ℕ) (right : Bool) → i < n → highRight n s d i ≡ right → t ≡ bit i d
+      → (front next : Front) → next ≡ advanced right t (getD marks i unmarked) i front → Holds n stops s d i front → Holds n stops s d (i + 1) next
+  front-on marks marked i t right h er et front next e held =
+      let look : getD marks i unmarked ≡ stopsFrom stops n i (high n s d i) right = marked i h ∙ ap (stopsFrom stops n i (high n s d i)) er in
+      let w = advanced-holds n stops s d source i h right er (getD marks i unmarked) (looks-from n stops s d i right (getD marks i unmarked) look) front held in
       subst (λ (k : ℕ). Holds n stops s d k next) (sym (add-one i))
-      (subst (Holds n stops s d (suc i)) (sym (e ∙ ap (λ (x : ℕ). advanced (eqb b t) x (getD marks i unmarked) i front) et)) w)
+      (subst (Holds n stops s d (suc i)) (sym (e ∙ ap (λ (x : ℕ). advanced right x (getD marks i unmarked) i front) et)) w)
 
   -- a frontier that is reached no more
   pub none-ahead : (i : ℕ) → i < n → (front next : Front) → Holds n stops s d i front → (front .high .reached || front .low .reached) ≡ true

@@ -5,7 +5,7 @@ use book::Target;
 use paths::Stops;
 ghost use mathlib.Core.Path.{_≡_};
 ghost use mathlib.Core.Bool.{false, cond, _||_};
-ghost use Prim.Native.Nat.{ℕ, _+_, _≤_, _<_};
+ghost use Prim.Native.Nat.{ℕ, _+_, _%_, _^_, _≤_, _<_};
 ghost use lib.Dec.{eqb};
 ghost use Rattle.fabric.specs.Labels.{size};
 ghost use Rattle.fabric.specs.Links.{lands};
@@ -17,16 +17,22 @@ pub fn highs(n: u8, source: u16, destination: u16) -> [u16; 13]
     requires { ⌜ (n ≤ 12) × (source < size n) ⌝ }
     ensures { λ r. ⌜ Highs n source destination r ⌝ }
 {
+    let apart = std::num::wrapping_sub_u16(destination, source);
     let mut out = [source; 13];
-    let mut j = source;
     let mut i = 0;
-    while i < n {
-        let right = fabric::bit_of(i, j) == fabric::bit_of(i, destination);
-        j = fabric::landing(n, i, paths::rise(right), j);
+    while i < 13 {
+        out[i as usize] = above(n, i, source, apart);
         i += 1;
-        out[i as usize] = j;
     }
     out
+}
+
+// The switch above the source by the low i bits of a distance.
+fn above(n: u8, i: u8, source: u16, apart: u16) -> u16
+    requires { ⌜ (n ≤ 12) × (i ≤ 12) ⌝ }
+    ensures { λ r. ⌜ r ≡ (source + apart % 2 ^ i) % 2 ^ n ⌝ }
+{
+    std::num::wrapping_add_u16(source, apart % fabric::size(i)) % fabric::size(n)
 }
 
 pub fn nothing() -> Stops

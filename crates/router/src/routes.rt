@@ -98,18 +98,17 @@ fn cross(n: u8, source: u16, destination: u16, marks: [Stops; 13]) -> Found
     requires { ⌜ (n ≤ 12) × (source < size n) × (destination < size n) ⌝ }
     ensures { λ r. ⌜ ((stops : Rule) → Marked n stops source destination marks → Routed n stops source destination r) ⌝ }
 {
+    let apart = std::num::wrapping_sub_u16(destination, source);
     let mut front = paths::at_source();
-    let mut j = source;
     let mut i = 0;
     while i < n {
         let stops = marks[i as usize];
         let t = fabric::bit_of(i, destination);
-        let right = fabric::bit_of(i, j) == t;
+        let right = fabric::bit_of(i, apart) == 0;
         front = paths::advance(front, right, t, stops, i);
         if !paths::reached(front) {
             return Found::None(i);
         }
-        j = fabric::landing(n, i, paths::rise(right), j);
         i += 1;
     }
     let high = front.high;

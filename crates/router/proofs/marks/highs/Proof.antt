@@ -1,47 +1,28 @@
--- The loop holds the high switch of column i, and the array those of the columns up to it.
-use mathlib.Core.Path.{_≡_, refl, sym, subst, _∙_}
-use Prim.Native.Nat.{ℕ, _+_, _-_, _≤_, _<_}
+-- Each place is filled by itself; `high-above` says that it then holds the high switch of its column.
+use mathlib.Core.Path.{_≡_, refl, sym, _∙_}
+use Prim.Native.Nat.{ℕ, _+_, _-_, _%_, _^_, _≤_, _<_}
 use native.Mathlib.Omega.{arith}
 use lib.ListN.{length, getD, length-set}
-use Rattle.fabric.specs.Labels.{size}
-use Rattle.paths.specs.Frontier.{high}
-use Rattle.paths.proofs.Pivots.{high-next}
+use Rattle.router.proofs.Apart.{high-above}
 use Rattle.router.proofs.Marking.{filled-more}
 use borrow.Author.Needs.{needs}
 use Rattle.router.proofs.marks.highs.Statement.{statement}
 use Rattle.router.proofs.marks.highs.Tie as tie
 
 abbrev Inv-loop : tie.InvT-loop
-Inv-loop n source destination out₀ j₀ i₀ out j i =
-    (i ≤ n) × (j < size n) × (j ≡ high n source destination i) × (length out ≡ 13) × ((k : ℕ) → k < i + 1 → getD out k 0 ≡ high n source destination k)
+Inv-loop n source destination apart out₀ i₀ out i = (i ≤ 13) × (length out ≡ 13) × ((k : ℕ) → k < i → getD out k 0 ≡ (source + apart % 2 ^ k) % 2 ^ n)
 
 abbrev μ-loop : tie.MeasureT-loop
-μ-loop n source destination out₀ j₀ i₀ out j i = n - i
+μ-loop n source destination apart out₀ i₀ out i = 13 - i
+
+wrapping-sub-u16-requires : tie.Need-wrapping-sub-u16-requires Inv-loop μ-loop
+wrapping-sub-u16-requires c κs = search needs
 
 loop-holds : tie.Need-loop-holds Inv-loop μ-loop
-unfolding high
-loop-holds c = (
-  search needs,
-  search needs,
-  refl,
-  refl,
-  λ k h. let e : k ≡ 0 = omega arith in rw e,
-)
+loop-holds c = (search needs, refl, λ k h. absurd (omega arith))
 
-bit-of-requires : tie.Need-bit-of-requires Inv-loop μ-loop
-bit-of-requires c κs = search needs
-
-bit-of-requires-2 : tie.Need-bit-of-requires-2 Inv-loop μ-loop
-bit-of-requires-2 c κs = search needs
-
-rise-requires : tie.Need-rise-requires Inv-loop μ-loop
-rise-requires c κs = search needs
-
-landing-requires : tie.Need-landing-requires Inv-loop μ-loop
-landing-requires c κs = search needs
-
-add-i : tie.Need-add-i Inv-loop μ-loop
-add-i c = search needs
+above-requires : tie.Need-above-requires Inv-loop μ-loop
+above-requires c κs = search needs
 
 cast-out : tie.Need-cast-out Inv-loop μ-loop
 cast-out c = search needs
@@ -52,24 +33,26 @@ mul-out c = search needs
 array-write-out : tie.Need-array-write-out Inv-loop μ-loop
 array-write-out c = search needs
 
+add-i : tie.Need-add-i Inv-loop μ-loop
+add-i c = search needs
+
 loop-less : tie.Need-loop-less Inv-loop μ-loop
 loop-less c = search needs
 
 loop-again : tie.Need-loop-again Inv-loop μ-loop
 loop-again c =
-    let a = c .before .before .before .before .before .before .args in
-    let v = c .before .before .before .before .before .loop in
-    let w = v .inv in
-    let next = c .landing .ensures .0 ∙ high-next (a .n) (a .source) (a .destination) (v .i) (v .j) _ _ _ (w .2) (c .before .before .before .bit-of .ensures .0) (c .before .before .bit-of2 .ensures .0) (c .before .rise .ensures) in (
+    let a = c .before .before .before .before .args in
+    let v = c .before .before .loop in
+    let w = v .inv in (
       omega arith,
-      c .landing .ensures .1,
-      next,
-      length-set (v .out) (v .i + 1) (c .landing .result) ∙ w .3,
-      filled-more (λ k x. x ≡ high (a .n) (a .source) (a .destination) k) (v .out) (v .i + 1) (c .landing .result) (omega arith) (w .4) next,
+      length-set (v .out) (v .i) (c .above .result) ∙ w .1,
+      filled-more (λ k x. x ≡ (a .source + c .before .before .before .wrapping-sub-u16 .result % 2 ^ k) % 2 ^ a .n) (v .out) (v .i) (c .above .result) (omega arith) (w .2) (c .above .ensures),
     )
 
 returns : tie.Need-returns Inv-loop μ-loop
-returns c = λ k h. c .before .loop .inv .4 k (omega arith)
+returns c = λ k h.
+    let a = c .before .before .before .args in
+    c .before .loop .inv .2 k (omega arith) ∙ sym (high-above (a .n) (a .source) (a .destination) _ (search needs) (search needs) (c .before .before .wrapping-sub-u16 .ensures) k h)
 
 pub highs-spec : {M : Type 1} → statement M
 highs-spec =
@@ -77,15 +60,13 @@ highs-spec =
     (tie.spec
     Inv-loop
     μ-loop
+    wrapping-sub-u16-requires
     loop-holds
-    bit-of-requires
-    bit-of-requires-2
-    rise-requires
-    landing-requires
-    add-i
+    above-requires
     cast-out
     mul-out
     array-write-out
+    add-i
     loop-less
     loop-again
     returns)

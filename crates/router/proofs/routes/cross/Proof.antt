@@ -7,39 +7,40 @@ use native.Mathlib.Numerals.{add-one}
 use native.Mathlib.Omega.{arith}
 use borrow.Author.Tests.{not-true, not-false}
 use borrow.Author.Needs.{needs}
+use lib.Dec.{eqb}
 use Rattle.fabric.specs.Labels.{size}
 use Rattle.paths.specs.declared.Place.{Place}
 use Rattle.paths.proofs.Places.{lesser-small}
 use Rattle.paths.specs.Clear.{Rule}
 use Rattle.paths.proofs.Frontier.{Holds, start-holds}
-use Rattle.paths.specs.Frontier.{Small, start, high}
-use Rattle.paths.proofs.Pivots.{high-next}
+use Rattle.paths.specs.Frontier.{Small, start}
 use Rattle.router.specs.Marks.{Marked}
+use Rattle.router.proofs.Apart.{right-where}
 use Rattle.router.proofs.Routing.{front-on, none-ahead, found-ahead}
 use Rattle.router.proofs.routes.cross.Statement.{statement}
 use Rattle.router.proofs.routes.cross.Tie as tie
 
 abbrev Inv-loop : tie.InvT-loop
-Inv-loop n source destination marks front₀ j₀ i₀ front j i =
-    (i ≤ n) × (j < size n) × (j ≡ high n source destination i) × Small i (front .high) × Small i (front .low) × ((front .high .reached || front .low .reached) ≡ true)
+Inv-loop n source destination marks apart front₀ i₀ front i =
+    (i ≤ n) × Small i (front .high) × Small i (front .low) × ((front .high .reached || front .low .reached) ≡ true)
     × ((stops : Rule) → Marked n stops source destination marks → Holds n stops source destination i front)
 
 abbrev μ-loop : tie.MeasureT-loop
-μ-loop n source destination marks front₀ j₀ i₀ front j i = n - i
+μ-loop n source destination marks apart front₀ i₀ front i = n - i
+
+wrapping-sub-u16-requires : tie.Need-wrapping-sub-u16-requires Inv-loop μ-loop
+wrapping-sub-u16-requires c κs = search needs
 
 at-source-requires : tie.Need-at-source-requires Inv-loop μ-loop
 at-source-requires c κs = search needs
 
 loop-holds : tie.Need-loop-holds Inv-loop μ-loop
-unfolding high
 loop-holds c =
-    let a = c .before .args in
+    let a = c .before .before .args in
     let e = c .at-source .ensures in
     let small : Small 0 (start .high) = record { key = omega arith; states = omega arith } in
     let low : Small 0 (start .low) = record { key = omega arith; states = omega arith } in (
       search needs,
-      search needs,
-      refl,
       rw e small,
       rw e low,
       rw e refl,
@@ -69,18 +70,15 @@ reached-requires c κs = search needs
 
 returns : tie.Need-returns Inv-loop μ-loop
 returns c = λ stops marked.
-    let a = c .before .before .before .before .before .before .before .before .before .args in
+    let a = c .before .before .before .before .before .before .before .before .before .before .args in
     let v = c .before .before .before .before .before .before .before .loop in
     let w = v .inv in
-    let held = w .6 stops marked in
-    let next = front-on (a .n) stops (a .source) (a .destination) (search needs) (a .t4) marked (v .i) (v .j) _ _ (omega arith) (w .2) (c .before .before .before .bit-of2 .ensures .0) (c .before .before .before .before .bit-of .ensures .0) (v .front) _ (c .before .before .advance .ensures .0) held in
-    none-ahead (a .n) stops (a .source) (a .destination) (search needs) (v .i) (omega arith) (v .front) _ held (w .5) next (sym (c .before .reached .ensures) ∙ not-true _ (c .if1 .taken))
-
-rise-requires : tie.Need-rise-requires Inv-loop μ-loop
-rise-requires c κs = search needs
-
-landing-requires : tie.Need-landing-requires Inv-loop μ-loop
-landing-requires c κs = search needs
+    let right =
+    right-where (a .n) (a .source) (a .destination) _ (search needs) (search needs) (c .before .before .before .before .before .before .before .before .before .wrapping-sub-u16 .ensures) (v .i) (omega arith)
+    ∙ ap (λ (b : ℕ). eqb b 0) (sym (c .before .before .before .bit-of2 .ensures .0)) in
+    let held = w .4 stops marked in
+    let next = front-on (a .n) stops (a .source) (a .destination) (search needs) (a .t4) marked (v .i) _ _ (omega arith) right (c .before .before .before .before .bit-of .ensures .0) (v .front) _ (c .before .before .advance .ensures .0) held in
+    none-ahead (a .n) stops (a .source) (a .destination) (search needs) (v .i) (omega arith) (v .front) _ held (w .3) next (sym (c .before .reached .ensures) ∙ not-true _ (c .if1 .taken))
 
 add-i : tie.Need-add-i Inv-loop μ-loop
 add-i c = search needs
@@ -90,19 +88,18 @@ loop-less c = search needs
 
 loop-again : tie.Need-loop-again Inv-loop μ-loop
 loop-again c =
-    let a = c .before .before .before .before .before .before .before .before .before .before .before .args in
-    let v = c .before .before .before .before .before .before .before .before .before .loop in
+    let a = c .before .before .before .before .before .before .before .before .before .before .args in
+    let v = c .before .before .before .before .before .before .before .loop in
     let w = v .inv in
+    let right =
+    right-where (a .n) (a .source) (a .destination) _ (search needs) (search needs) (c .before .before .before .before .before .before .before .before .before .wrapping-sub-u16 .ensures) (v .i) (omega arith)
+    ∙ ap (λ (b : ℕ). eqb b 0) (sym (c .before .before .before .bit-of2 .ensures .0)) in
     let more = add-one (v .i) in (
       omega arith,
-      c .landing .ensures .1,
-      c .landing .ensures .0
-          ∙ high-next (a .n) (a .source) (a .destination) (v .i) (v .j) _ _ _ (w .2) (c .before .before .before .before .before .bit-of2 .ensures .0) (c .before .before .before .before .before .before .bit-of .ensures .0) (c .before .rise .ensures),
-      rw more (c .before .before .before .before .advance .ensures .1),
-      rw more (c .before .before .before .before .advance .ensures .2),
-      sym (c .before .before .before .reached .ensures) ∙ not-false _ (c .before .before .if1 .left),
-      λ stops marked.
-          front-on (a .n) stops (a .source) (a .destination) (search needs) (a .t4) marked (v .i) (v .j) _ _ (omega arith) (w .2) (c .before .before .before .before .before .bit-of2 .ensures .0) (c .before .before .before .before .before .before .bit-of .ensures .0) (v .front) _ (c .before .before .before .before .advance .ensures .0) (w .6 stops marked),
+      rw more (c .before .before .advance .ensures .1),
+      rw more (c .before .before .advance .ensures .2),
+      sym (c .before .reached .ensures) ∙ not-false _ (c .if1 .left),
+      λ stops marked. front-on (a .n) stops (a .source) (a .destination) (search needs) (a .t4) marked (v .i) _ _ (omega arith) right (c .before .before .before .before .bit-of .ensures .0) (v .front) _ (c .before .before .advance .ensures .0) (w .4 stops marked),
     )
 
 first-of-requires : tie.Need-first-of-requires Inv-loop μ-loop
@@ -110,17 +107,17 @@ first-of-requires c κs = search needs
 
 joined-requires : tie.Need-joined-requires Inv-loop μ-loop
 joined-requires c κs =
-    let a = c .before .before .before .before .before .before .args in
+    let a = c .before .before .before .before .before .before .before .args in
     let v = c .before .before .before .before .loop in
     let e : v .i ≡ a .n = omega arith in
-    let small = lesser-small (v .front .high) (v .front .low) (v .i) (c .first-of .ensures) (v .inv .3) (v .inv .4) .states in
+    let small = lesser-small (v .front .high) (v .front .low) (v .i) (c .first-of .ensures) (v .inv .1) (v .inv .2) .states in
     (search needs, search needs, subst (λ (k : ℕ). c .first-of .result .states < 2 ^ k) e small)
 
 returns-2 : tie.Need-returns-2 Inv-loop μ-loop
 returns-2 c = λ stops marked.
-    let a = c .before .before .before .before .before .before .before .args in
+    let a = c .before .before .before .before .before .before .before .before .args in
     let v = c .before .before .before .before .before .loop in
-    found-ahead (a .n) stops (a .source) (a .destination) (search needs) (search needs) (v .i) _ (omega arith) (v .front) (v .inv .6 stops marked) (v .inv .5)
+    found-ahead (a .n) stops (a .source) (a .destination) (search needs) (search needs) (v .i) _ (omega arith) (v .front) (v .inv .4 stops marked) (v .inv .3)
     (c .joined .ensures ∙ ap (λ (p : Place). a .destination + size (a .n) * p .states) (c .before .first-of .ensures))
 
 pub cross-spec : {M : Type 1} → statement M
@@ -129,6 +126,7 @@ cross-spec =
     (tie.spec
     Inv-loop
     μ-loop
+    wrapping-sub-u16-requires
     at-source-requires
     loop-holds
     cast-stops
@@ -139,8 +137,6 @@ cross-spec =
     advance-requires
     reached-requires
     returns
-    rise-requires
-    landing-requires
     add-i
     loop-less
     loop-again
