@@ -1,4 +1,5 @@
-//! A runner of sheets in plain Rust, written for speed from document 01 alone and sharing nothing with the proved one.
+//! A runner of sheets in plain Rust, written for speed. It shares no code with the proved one; its checks follow the definitions in
+//! specs/, so that it is a measure of cost and no second reading of document 01.
 use crate::plain::{route, Answer, Target};
 
 const STANDING: usize = 48;
