@@ -25,7 +25,7 @@ use Rattle.book.proofs.Reach.{good-run, good-sound, opened-good, opened
 use Rattle.book.proofs.Stoppers.{stopper-some}
 use Rattle.book.proofs.Once.{link-tells}
 
-run-on : (before later : List Change) (b : Book) → run (before ++ later) b ≡ run later (run before b)
+pub run-on : (before later : List Change) (b : Book) → run (before ++ later) b ≡ run later (run before b)
 unfolding run
 run-on [] later b = refl
 run-on (a ∷ rest) later b = run-on rest later (after a b)

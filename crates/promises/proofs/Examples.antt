@@ -2,9 +2,10 @@
 use mathlib.Core.Path.{_≡_, refl, ap, ap₂, subst}
 use mathlib.Core.Bool.{Bool, true, false, not, _&&_, false≢true}
 use mathlib.Core.List.{List, [], _∷_}
-use Prim.Native.Nat.{ℕ}
+use Prim.Native.Nat.{ℕ, zero, suc}
 use borrow.Author.Tests.{eqb-true, eqb-false, leb-false, not-true}
 use lib.Dec.{eqb}
+use lib.ListN.{getD}
 use lib.Count.{ones}
 use Rattle.table.specs.Checks.{Check, Passed, Passed.none, Passed.passes, _notBelow_}
 use Rattle.table.proofs.Checks.{passed-nth, neither}
@@ -118,3 +119,14 @@ tested = refl
 -- the thirteen examples
 pub examples-hold : AllHold examples
 examples-hold = all-rows examples tested
+
+-- and each row by its place, counted from 0
+row-of : (es : List Example) → AllHold es → (k : ℕ) (e : Example) → Claim e → Claim (getD es k e)
+unfolding AllHold
+row-of [] all k e claim = claim
+row-of (x ∷ es) all zero e claim = all .0
+row-of (x ∷ es) all (suc k) e claim = row-of es (all .1) k e claim
+
+pub row-holds : (k : ℕ) → Claim (getD examples k (Example.route 3 [] 1 0 (Found.Tag 0)))
+unfolding AllHold
+row-holds k = row-of examples examples-hold k (Example.route 3 [] 1 0 (Found.Tag 0)) (examples-hold .0)
