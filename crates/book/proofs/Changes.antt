@@ -12,9 +12,9 @@ use Rattle.table.proofs.Checks.{neither-of, given-refuses, passed-accepts, give
 use Rattle.table.specs.Reply.{Reply, refused}
 use Rattle.table.specs.Checks.{Given, Passed, _when_, _below_}
 use Rattle.fabric.specs.Labels.{outsideSizes}
-use Rattle.book.specs.declared.Notice.{Notice}
+use Rattle.notices.specs.declared.Notice.{Notice}
 use Rattle.book.specs.declared.Book.{Book}
-use Rattle.book.specs.Targets.{unfit}
+use Rattle.notices.specs.Targets.{unfit}
 use Rattle.book.specs.Standing.{filler, standing, unused, bookOf, insert, without, Filed, misfiled, littered, unsound}
 use Rattle.book.specs.declared.Kept.{Kept}
 use Rattle.book.specs.Entries.{answerSays, opened, Opens, Files, Withdraws, fileChecks}

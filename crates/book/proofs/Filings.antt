@@ -2,25 +2,20 @@
 use mathlib.Core.Path.{_≡_, refl, sym, ap, ap₂, _∙_}
 use mathlib.Core.Bool.{Bool, true, false, not, _&&_, _||_, true≢false}
 use mathlib.Core.List.{List, [], _∷_}
-use mathlib.Core.Logic.{_↔_}
 use Prim.Native.Nat.{ℕ, zero, suc, _-_, _≤_}
 use native.Mathlib.Omega.{arith}
 use borrow.Author.Tests.{ne-eqb, lt-leb, eqb-true, leb-false, ltb-false}
 use lib.Dec.{eqb}
 use lib.ListN.{length, replicate, length-drop}
-use Rattle.table.proofs.Checks.{neither}
+use Rattle.table.proofs.Checks.{neither, both-hold}
 use Rattle.table.specs.Checks.{_below_, _notBelow_}
 use Rattle.fabric.specs.Labels.{outsideSizes}
-use Rattle.book.specs.declared.Notice.{Notice}
-use Rattle.book.specs.declared.Target.{Target}
-use Rattle.book.specs.declared.Target.the-variants.{Links, Switch, Pattern}
-use Rattle.book.specs.Targets.{unfit}
+use Rattle.notices.specs.declared.Notice.{Notice}
+use Rattle.notices.specs.declared.Target.{Target}
+use Rattle.notices.specs.declared.Target.the-variants.{Links, Switch, Pattern}
+use Rattle.notices.specs.Targets.{unfit}
 use Rattle.book.specs.declared.Book.{Book}
 use Rattle.book.specs.Standing.{filler, standing, unused, stands, Filed, misfiled, isFiller, isFirstTarget, littered, unsound, Sound}
-
-pub both-hold : (a b : Bool) → (a && b ≡ true) ↔ ((a ≡ true) × (b ≡ true))
-both-hold true b = ((λ e. (refl, e)), (λ w. w .1))
-both-hold false b = ((λ e. absurd (true≢false (sym e))), (λ w. absurd (true≢false (sym (w .0)))))
 
 -- `misfiled` decides `Filed`
 pub filed-if : (n k : ℕ) (l : List Notice) → misfiled n k l ≡ false → Filed n k l

@@ -4,9 +4,6 @@ pub mod Filings
 pub mod Placing
 pub mod Listings
 pub mod Answers
--- which links a target names, and how many switches a pattern names
-pub mod Named
-pub mod Counted
 -- what stops a link
 pub mod Stoppers
 -- number 16 exactly, demand 3, and no second answer

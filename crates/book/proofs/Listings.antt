@@ -6,10 +6,11 @@ use native.Mathlib.Numerals.{add-one}
 use native.Mathlib.Omega.{arith}
 use lib.ListN.{length, take, drop, getD, length-append}
 use lib.Seq.{paste, take-suc, take-at, take-all, drop-append-add, drop-drop, length-take-le}
-use Rattle.book.specs.declared.Notice.{Notice}
-use Rattle.book.specs.declared.Target.{Target}
-use Rattle.book.specs.declared.Target.the-variants.{Links, Switch, Pattern}
-use Rattle.book.specs.Layout.{filingOf, filing, rows}
+use Rattle.notices.specs.declared.Notice.{Notice}
+use Rattle.notices.specs.declared.Target.{Target}
+use Rattle.notices.specs.declared.Target.the-variants.{Links, Switch, Pattern}
+use Rattle.notices.specs.Layout.{filingOf, filing}
+use Rattle.book.specs.Rows.{rows}
 
 ten : (k : ℕ) (t : Target) → length (filingOf k t) ≡ 10
 ten k (Links stage switch s) = refl

@@ -10,8 +10,8 @@ use borrow.Author.Tests.{eq-eqb, ne-eqb, lt-ltb, le-ltb}
 use lib.Dec.{eqb}
 use lib.ListN.{length}
 use Rattle.table.specs.Checks.{_below_}
-use Rattle.book.specs.declared.Notice.{Notice}
-use Rattle.book.specs.Targets.{unfit}
+use Rattle.notices.specs.declared.Notice.{Notice}
+use Rattle.notices.specs.Targets.{unfit}
 use Rattle.book.specs.Standing.{stands, insert, without, Filed}
 use Rattle.book.specs.Runs.{Distinct}
 

@@ -13,9 +13,9 @@ use Rattle.table.proofs.Checks.{neither, neither-of}
 use Rattle.table.specs.Reply.{Reply, refused}
 use Rattle.table.specs.Checks.{Passed, Passed.none, Passed.passes, _notBelow_, checked}
 use Rattle.fabric.specs.Labels.{outsideSizes}
-use Rattle.book.specs.declared.Notice.{Notice}
+use Rattle.notices.specs.declared.Notice.{Notice}
 use Rattle.book.specs.declared.Book.{Book}
-use Rattle.book.specs.Targets.{outsideFabric, badField, tooWide}
+use Rattle.notices.specs.Targets.{outsideFabric, badField, tooWide}
 use Rattle.book.specs.Standing.{filler, standing, bookOf, stands, insert, Filed, unsound}
 use Rattle.book.specs.Entries.{openChecks, opened, fileChecks}
 use Rattle.book.specs.Runs.{Change, after, Accepted, run, AllAccepted, Reachable, Distinct}

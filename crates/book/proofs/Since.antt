@@ -13,10 +13,10 @@ use Rattle.table.proofs.Checks.{neither-of, passed-accepts}
 use Rattle.table.specs.Reply.{Reply, refused}
 use Rattle.table.specs.Checks.{Passed.none, Passed.passes}
 use Rattle.fabric.specs.Labels.{size, outsideSizes}
-use Rattle.book.specs.declared.Notice.{Notice}
+use Rattle.notices.specs.declared.Notice.{Notice}
 use Rattle.book.specs.declared.Book.{Book}
 use Rattle.book.specs.declared.Link.{Link}
-use Rattle.book.specs.Targets.{names}
+use Rattle.notices.specs.Targets.{names}
 use Rattle.book.specs.Standing.{standing, bookOf, Stopped, stopper}
 use Rattle.book.specs.Entries.{opened, linkChecks, linkSays, Tests}
 use Rattle.book.specs.Runs.{Change, after, Accepted, run, AllAccepted, NotWithdrawn, StandsSince, Distinct}

@@ -7,8 +7,8 @@ use mathlib.Core.Logic.{_⊎_, inl, inr, _↔_}
 use Prim.Native.Nat.{ℕ, _≤_, _<_}
 use native.Mathlib.Omega.{arith}
 use native.Mathlib.Decide.{ℕ-discrete}
-use Rattle.book.specs.declared.Notice.{Notice}
-use Rattle.book.specs.Targets.{names}
+use Rattle.notices.specs.declared.Notice.{Notice}
+use Rattle.notices.specs.Targets.{names}
 use Rattle.book.specs.Standing.{Filed, Stopped, stopper}
 use Rattle.book.proofs.Members.{all-above}
 

@@ -9,15 +9,15 @@ use Rattle.table.specs.Numbers.{numberOf}
 use Rattle.table.specs.Reply.{Reply, refused}
 use Rattle.table.specs.Checks.{Check, _when_, _below_, _notBelow_, checked}
 use Rattle.fabric.specs.Labels.{size, outsideSizes}
-use Rattle.book.specs.declared.Notice.{Notice}
+use Rattle.notices.specs.declared.Notice.{Notice}
 use Rattle.book.specs.declared.Book.{Book}
 use Rattle.book.specs.declared.Kept.{Kept}
 use Rattle.book.specs.declared.Answer.{Answer}
 use Rattle.book.specs.declared.Link.{Link}
 use Rattle.book.specs.declared.Listing.{Listing}
-use Rattle.book.specs.Targets.{outsideFabric, badField, tooWide}
+use Rattle.notices.specs.Targets.{outsideFabric, badField, tooWide}
 use Rattle.book.specs.Standing.{standing, bookOf, stands, insert, without, unsound, stopper}
-use Rattle.book.specs.Layout.{rows}
+use Rattle.book.specs.Rows.{rows}
 
 -- what an answer to open, file and withdraw says
 abbrev pub answerSays : Answer → Reply

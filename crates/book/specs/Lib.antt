@@ -1,6 +1,5 @@
-pub mod Targets
 pub mod Standing
 pub mod Places
-pub mod Layout
+pub mod Rows
 pub mod Entries
 pub mod Runs

@@ -4,7 +4,7 @@ use mathlib.Core.Bool.{cond}
 use mathlib.Core.List.{List, [], _∷_}
 use Prim.Native.Nat.{ℕ, suc}
 use lib.Dec.{leb}
-use Rattle.book.specs.declared.Notice.{Notice}
+use Rattle.notices.specs.declared.Notice.{Notice}
 
 -- how many notices are passed before the first whose number is k or more
 unfoldable pub placeOf : ℕ → List Notice → ℕ

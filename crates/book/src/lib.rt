@@ -1,4 +1,5 @@
 // Document 01, 'Notices': the book of notices, and its entries open, file, withdraw, link stopped or not, and listing.
+use notices::Notice;
 use table::Refusal;
 ghost use mathlib.Core.Path.{_≡_};
 ghost use mathlib.Core.Bool.{false};
@@ -7,37 +8,10 @@ ghost use Rattle.fabric.specs.Labels.{size};
 ghost use Rattle.book.specs.Standing.{standing, stopper, unsound, Sound};
 ghost use Rattle.book.specs.Entries.{Opens, Files, Withdraws, Tests, Lists};
 
-mod targets; // targets.rt: which links a target names, and when filing refuses it
 mod places; // places.rt: the notices in their places
 mod rows; // rows.rt: the listing's bytes
 
 pub use places::littered;
-pub use targets::names;
-pub use targets::unfit;
-
-// One of the three targets of a notice.
-pub enum Target {
-    Links {
-        stage: u8,
-        switch: u16,
-        set: u8,
-    },
-    Switch {
-        column: u8,
-        switch: u16,
-    },
-    Pattern {
-        stage: u8,
-        value: u16,
-        mask: u16,
-        set: u8,
-    },
-}
-
-pub struct Notice {
-    pub number: u16,
-    pub target: Target,
-}
 
 // The first `count` notices stand, by rising number; every place after them holds number 0 and the first target, all zero.
 pub struct Book {
@@ -97,7 +71,7 @@ pub fn stopper(book: Book, stage: u8, switch: u16, code: u8) -> u16
     let mut i = 0;
     while i < count {
         let x = book.notices[i];
-        if targets::names(n, x, stage, switch, code) {
+        if notices::names(n, x, stage, switch, code) {
             return x.number;
         }
         i += 1;
@@ -146,13 +120,13 @@ impl Book {
             return refused(self, Refusal::Zero);
         }
         let n = self.n;
-        if targets::outside_fabric(n, notice) {
+        if notices::outside_fabric(n, notice) {
             return refused(self, Refusal::Place);
         }
-        if targets::bad_field(n, notice) {
+        if notices::bad_field(n, notice) {
             return refused(self, Refusal::Field);
         }
-        if targets::too_wide(notice) {
+        if notices::too_wide(notice) {
             return refused(self, Refusal::Wide);
         }
         if places::stands(self, notice.number) {
@@ -188,7 +162,7 @@ impl Book {
             return Link::Refused(Refusal::Book);
         }
         let n = self.n;
-        if targets::either(n <= stage, fabric::outside_labels(n, switch)) {
+        if table::either(n <= stage, fabric::outside_labels(n, switch)) {
             return Link::Refused(Refusal::Place);
         }
         if 2 < code {

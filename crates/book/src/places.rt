@@ -1,8 +1,7 @@
 // The notices of a book in their places: what stands, by rising number, and the unused places after it.
 use super::Book;
-use super::Notice;
-use super::Target;
-use super::targets;
+use notices::Notice;
+use notices::Target;
 ghost use mathlib.Core.Path.{_≡_};
 ghost use mathlib.Core.Bool.{true};
 ghost use mathlib.Core.List.{[]};
@@ -52,7 +51,7 @@ pub fn misfiled(book: Book) -> bool
         if x.number <= last {
             return true;
         }
-        if targets::unfit(n, x) {
+        if notices::unfit(n, x) {
             return true;
         }
         last = x.number;
@@ -68,21 +67,21 @@ fn is_filler(x: Notice) -> bool
     let t = x.target;
     match t {
         Target::Links { stage, switch, set } => {
-            targets::both(
+            table::both(
                 x.number == 0,
-                targets::both(targets::both(stage == 0, switch == 0), set == 0),
+                table::both(table::both(stage == 0, switch == 0), set == 0),
             )
         }
         Target::Switch {
             column: _,
             switch: _,
-        } => targets::both(x.number == 0, false),
+        } => table::both(x.number == 0, false),
         Target::Pattern {
             stage: _,
             value: _,
             mask: _,
             set: _,
-        } => targets::both(x.number == 0, false),
+        } => table::both(x.number == 0, false),
     }
 }
 

@@ -8,7 +8,7 @@ use super::say;
 use super::switch;
 use super::withdraw;
 use book::Book;
-use book::Notice;
+use notices::Notice;
 
 fn entries(why: &[u8], book: Book) {
     say(why);

@@ -4,8 +4,8 @@ use book::Answer;
 use book::Book;
 use book::Link;
 use book::Listing;
-use book::Notice;
-use book::Target;
+use notices::Notice;
+use notices::Target;
 use table::Refusal;
 
 mod full; // full.rt: 48 filings and the 49th

@@ -5,7 +5,7 @@ use crate::words::number;
 use crate::words::word;
 use book::Answer;
 use book::Book;
-use book::Notice;
+use notices::Notice;
 use router::Found;
 use sheet::Action;
 use table::Refusal;

@@ -4,7 +4,7 @@ use mathlib.Core.Path.{_≡_, refl, sym, ap, ap₂, subst, _∙_}
 use mathlib.Core.List.{List, [], _∷_, _++_, map, List·Memᴰ}
 use mathlib.Core.Logic.{_↔_}
 use Prim.Native.Nat.{ℕ}
-use Rattle.book.specs.declared.Notice.{Notice}
+use Rattle.notices.specs.declared.Notice.{Notice}
 use Rattle.book.specs.declared.Book.{Book}
 use Rattle.book.specs.Entries.{opened}
 use Rattle.book.specs.Runs.{Change, run, StandsSince, Distinct}

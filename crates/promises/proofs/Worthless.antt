@@ -16,13 +16,13 @@ use Rattle.table.proofs.Checks.{given-or-passed, passed-accepts, passed-nth, ac
 use Rattle.fabric.specs.Labels.{outsideSizes}
 use Rattle.fabric.specs.Walks.{walked}
 use Rattle.tags.specs.Tags.{steered}
-use Rattle.book.specs.declared.Notice.{Notice}
+use Rattle.notices.specs.declared.Notice.{Notice}
 use Rattle.book.specs.declared.Book.{Book}
 use Rattle.book.specs.declared.Kept.{Kept}
 use Rattle.book.specs.declared.Answer.{Answer}
 use Rattle.book.specs.declared.Link.{Link}
-use Rattle.book.specs.declared.Target.the-variants.{Links}
-use Rattle.book.specs.Targets.{names}
+use Rattle.notices.specs.declared.Target.the-variants.{Links}
+use Rattle.notices.specs.Targets.{names}
 use Rattle.book.specs.Standing.{standing, unused, stopper, stands, insert, without, misfiled, littered, unsound}
 use Rattle.book.specs.Entries.{answerSays, linkSays, opened, fileChecks, withdrawChecks, linkChecks, filed, withdrawn, Files, Withdraws, Tests}
 use Rattle.book.specs.Runs.{run}

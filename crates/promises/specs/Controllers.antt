@@ -10,12 +10,12 @@ use Rattle.table.specs.Checks.{Passed}
 use Rattle.fabric.specs.Walks.{switchAt}
 use Rattle.tags.specs.Tags.{stepsOf}
 use Rattle.paths.specs.Clear.{ClearPath, StageNamed}
-use Rattle.book.specs.declared.Notice.{Notice}
+use Rattle.notices.specs.declared.Notice.{Notice}
 use Rattle.book.specs.declared.Book.{Book}
 use Rattle.book.specs.declared.Kept.{Kept}
 use Rattle.book.specs.declared.Answer.{Answer}
 use Rattle.book.specs.declared.Link.{Link}
-use Rattle.book.specs.Targets.{names}
+use Rattle.notices.specs.Targets.{names}
 use Rattle.book.specs.Standing.{standing}
 use Rattle.book.specs.Entries.{Files, Withdraws, Tests}
 use Rattle.router.specs.declared.Found.{Found}

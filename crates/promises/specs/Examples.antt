@@ -6,7 +6,7 @@ use lib.ListN.{replicate}
 use Rattle.tags.specs.declared.Tag.{Tag}
 use Rattle.tags.specs.Tags.{stepsOf}
 use Rattle.tags.specs.Entries.{NormalForm}
-use Rattle.book.specs.declared.Target.the-variants.{Links}
+use Rattle.notices.specs.declared.Target.the-variants.{Links}
 use Rattle.book.specs.declared.Link.{Link}
 use Rattle.book.specs.Entries.{opened, Tests}
 use Rattle.book.specs.Runs.{Change, run}

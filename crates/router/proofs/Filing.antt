@@ -9,10 +9,10 @@ use borrow.Author.Tests.{leb-false, ltb-false}
 use lib.Dec.{leb}
 use lib.ListN.{length, take, drop, take-append-drop}
 use Rattle.table.proofs.Checks.{neither}
-use Rattle.book.specs.declared.Notice.{Notice}
-use Rattle.book.specs.declared.Target.{Target}
-use Rattle.book.specs.declared.Target.the-variants.{Links, Switch, Pattern}
-use Rattle.book.specs.Targets.{outsideFabric, badField, tooWide, unfit}
+use Rattle.notices.specs.declared.Notice.{Notice}
+use Rattle.notices.specs.declared.Target.{Target}
+use Rattle.notices.specs.declared.Target.the-variants.{Links, Switch, Pattern}
+use Rattle.notices.specs.Targets.{outsideFabric, badField, tooWide, unfit}
 use Rattle.book.specs.Standing.{misfiled}
 use Rattle.router.specs.Marks.{columnOf}
 

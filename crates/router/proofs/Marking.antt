@@ -14,10 +14,10 @@ use lib.ListN.{length, take, drop, getD, set, replicate, getD-replicate}
 use lib.Seq.{getD-set-same, getD-set-other}
 use Rattle.fabric.specs.Labels.{size, bit}
 use Rattle.fabric.specs.Links.{lands}
-use Rattle.book.specs.declared.Notice.{Notice}
-use Rattle.book.specs.declared.Target.{Target}
-use Rattle.book.specs.declared.Target.the-variants.{Links, Switch, Pattern}
-use Rattle.book.specs.Targets.{names}
+use Rattle.notices.specs.declared.Notice.{Notice}
+use Rattle.notices.specs.declared.Target.{Target}
+use Rattle.notices.specs.declared.Target.the-variants.{Links, Switch, Pattern}
+use Rattle.notices.specs.Targets.{names}
 use Rattle.book.specs.Standing.{stopper}
 use Rattle.book.proofs.Arrays.{next-of}
 use Rattle.paths.specs.declared.Stops.{Stops}

@@ -11,10 +11,10 @@ use Rattle.fabric.specs.Links.{lands}
 use Rattle.paths.specs.declared.Stops.{Stops}
 use Rattle.paths.specs.Clear.{Rule}
 use Rattle.paths.specs.Frontier.{high, stopsFrom}
-use Rattle.book.specs.declared.Notice.{Notice}
-use Rattle.book.specs.declared.Target.{Target}
-use Rattle.book.specs.declared.Target.the-variants.{Links, Switch, Pattern}
-use Rattle.book.specs.Targets.{names}
+use Rattle.notices.specs.declared.Notice.{Notice}
+use Rattle.notices.specs.declared.Target.{Target}
+use Rattle.notices.specs.declared.Target.the-variants.{Links, Switch, Pattern}
+use Rattle.notices.specs.Targets.{names}
 
 -- the high switch of each column
 abbrev pub Highs : ℕ → ℕ → ℕ → List ℕ → Type 0

@@ -1,7 +1,7 @@
 // Which numbers stop the links that lie on ways from a source to a destination. A notice is held against the two switches of
 // its own column alone, and most notices speak of neither.
-use book::Notice;
-use book::Target;
+use notices::Notice;
+use notices::Target;
 use paths::Stops;
 ghost use mathlib.Core.Path.{_≡_};
 ghost use mathlib.Core.Bool.{false, cond, _||_};
@@ -9,7 +9,7 @@ ghost use Prim.Native.Nat.{ℕ, _+_, _%_, _^_, _≤_, _<_};
 ghost use lib.Dec.{eqb};
 ghost use Rattle.fabric.specs.Labels.{size};
 ghost use Rattle.fabric.specs.Links.{lands};
-ghost use Rattle.book.specs.Targets.{names};
+ghost use Rattle.notices.specs.Targets.{names};
 ghost use Rattle.router.specs.Marks.{Highs, columnOf, tellsOf, unmarked, mark, marksOf, marksAt};
 
 // The high switches of the columns.
@@ -186,7 +186,7 @@ fn marked(n: u8, x: Notice, i: u8, j: u16, code: u8, old: u16) -> u16
     requires { ⌜ (n ≤ 12) × (i < n) × (j < size n) × (code < 3) ⌝ }
     ensures { λ r. ⌜ r ≡ mark n x i j code old ⌝ }
 {
-    if book::names(n, x, i, j, code) {
+    if notices::names(n, x, i, j, code) {
         return x.number;
     }
     old

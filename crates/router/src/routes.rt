@@ -73,7 +73,7 @@ fn ahead(book: Book, source: u16, destination: u16) -> Found
         if next <= x.number as u32 {
             return Found::Refused(Refusal::Book);
         }
-        if book::unfit(n, x) {
+        if notices::unfit(n, x) {
             return Found::Refused(Refusal::Book);
         }
         next = x.number as u32;

@@ -1,11 +1,11 @@
 // Runs routes and walks on document 01's examples and on bad input, through open, file, route and walk, and prints a line
 // for each call.
 use book::Book;
-use book::Notice;
-use book::Target;
 use lines::number;
 use lines::refused;
 use lines::word;
+use notices::Notice;
+use notices::Target;
 use router::Ended;
 use router::Found;
 

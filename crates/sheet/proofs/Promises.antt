@@ -2,7 +2,6 @@
 use mathlib.Core.Path.{_≡_, refl, sym, ap, _∙_}
 use mathlib.Core.Bool.{true, false, not}
 use mathlib.Core.List.{List, [], _∷_, _++_}
-use mathlib.Core.Logic.{_⊎_, inl, inr}
 use Prim.Native.Nat.{ℕ, _+_, _-_, _≤_, _<_}
 use native.Mathlib.Omega.{arith}
 use borrow.Author.Tests.{eq-eqb, ne-eqb, le-leb, lt-leb, leb-false, ltb-false, eqb-true, not-false}
@@ -11,46 +10,13 @@ use lib.ListN.{length, take, drop}
 use Rattle.table.specs.declared.Refusal.{Refusal}
 use Rattle.table.specs.Numbers.{numberOf}
 use Rattle.table.specs.Reply.{Reply.accepted, refused}
-use Rattle.table.specs.Checks.{Check, _when_, _below_, _notBelow_, checked, Given, Given.here, Given.later, Passed, Passed.none, Passed.passes}
-use Rattle.table.proofs.Checks.{given-refuses, passed-accepts, given-or-passed, accepted-passed, passed-nth, neither}
+use Rattle.table.specs.Checks.{Check, _when_, _below_, _notBelow_, checked, Given, Given.here, Passed, Passed.none, Passed.passes}
+use Rattle.table.proofs.Checks.{given-refuses, passed-accepts, accepted-passed, refused-given, accepted-says, given-before, given-after, passed-both, passed-nth, neither}
 use Rattle.sheet.specs.declared.Header.{Header}
 use Rattle.sheet.specs.declared.There.{There}
 use Rattle.sheet.specs.declared.Action.{Action}
 use Rattle.sheet.specs.Format.{sizeIn, countIn, placeOf}
 use Rattle.sheet.specs.Entries.{actionSays, headerChecks, ReadsHeader, thereChecks, HasAction, startOf, partOf, actionChecks, ReadsAction}
-
--- an entry that refuses was given its number by its checks
-pub refused-given : (cs : List Check) (v : List ℕ) (k : ℕ) → refused k ≡ checked cs refused (accepted v) → Given k cs
-refused-given cs v k e = go (given-or-passed cs)
-  where
-    go : ((j : ℕ) × Given j cs) ⊎ Passed cs → Given k cs
-    go (inl g) =
-        let f : refused k ≡ refused (g .0) = e ∙ given-refuses refused (accepted v) (g .0) cs (g .1) in
-        let same : g .0 ≡ k = cc in
-        rw same at (g .1)
-    go (inr p) =
-        let f : refused k ≡ accepted v = e ∙ passed-accepts refused (accepted v) cs p in
-        let z : _≡_ {A = ℕ} 0 1 = cc in
-        absurd (omega arith)
-
--- and one that accepts says what an accepted call gives
-pub accepted-says : (cs : List Check) (v w : List ℕ) → accepted w ≡ checked cs refused (accepted v) → w ≡ v
-accepted-says cs v w e =
-    let f : accepted w ≡ accepted v = e ∙ passed-accepts refused (accepted v) cs (accepted-passed cs v w e) in
-    cc
-
--- checks and then more checks
-pub given-before : {k : ℕ} (cs ds : List Check) → Given k cs → Given k (cs ++ ds)
-given-before (c ∷ cs) ds (here h e) = here h e
-given-before (c ∷ cs) ds (later h g) = later h (given-before cs ds g)
-
-pub given-after : {k : ℕ} (cs ds : List Check) → Passed cs → Given k ds → Given k (cs ++ ds)
-given-after [] ds none g = g
-given-after (c ∷ cs) ds (passes h p) g = later h (given-after cs ds p g)
-
-pub passed-both : (cs ds : List Check) → Passed cs → Passed ds → Passed (cs ++ ds)
-passed-both [] ds none q = q
-passed-both (c ∷ cs) ds (passes h p) q = passes h (passed-both cs ds p q)
 
 -- what tests for inequality say
 pub unequal : {x y : ℕ} → (x ≡ y → ⊥) → not (eqb x y) ≡ true

@@ -15,10 +15,10 @@ use Rattle.table.specs.Numbers.{numberOf}
 use Rattle.table.specs.Reply.{Reply.accepted, refused}
 use Rattle.table.specs.Checks.{Passed, Passed.none, Passed.passes, _below_, Given, Given.here, Given.later}
 use Rattle.table.proofs.Numbers.{number-tells}
-use Rattle.table.proofs.Checks.{passed-accepts, passed-nth, neither}
-use Rattle.book.specs.declared.Target.{Target}
-use Rattle.book.specs.declared.Target.the-variants.{Links, Switch, Pattern}
-use Rattle.book.specs.Layout.{filingOf}
+use Rattle.table.proofs.Checks.{passed-accepts, refused-given, accepted-says, passed-nth, neither}
+use Rattle.notices.specs.declared.Target.{Target}
+use Rattle.notices.specs.declared.Target.the-variants.{Links, Switch, Pattern}
+use Rattle.notices.specs.Layout.{filingOf}
 use Rattle.sheet.specs.declared.Header.{Header}
 use Rattle.sheet.specs.declared.There.{There}
 use Rattle.sheet.specs.declared.Action.{Action}
@@ -26,7 +26,7 @@ use Rattle.sheet.specs.declared.Fields.{Fields}
 use Rattle.sheet.specs.Format.{word, headerBytes, sizeIn, countIn, fieldBytes, fieldsOf, bytesOf, layoutFault, placeOf}
 use Rattle.sheet.specs.Entries.{headerSays, thereSays, actionSays, wrongMark, ReadsHeader, HasAction, actionChecks, ReadsAction, partOf, thereChecks}
 use Rattle.sheet.proofs.Layouts.{word-read, high-written, low-written, fields-written, spells, links-bytes, switch-bytes, pattern-bytes, withdrawing-bytes, routing-bytes, filing-right, withdrawing-right, routing-right, links-right, switch-right, pattern-right}
-use Rattle.sheet.proofs.Promises.{accepted-says, there-fits, there-passed, refused-given}
+use Rattle.sheet.proofs.Promises.{there-fits, there-passed}
 
 -- an answer is known by what it says
 pub header-tells : (a b : Header) → headerSays a ≡ headerSays b → a ≡ b

@@ -5,7 +5,7 @@ use mathlib.Core.List.{List, [], _∷_}
 use Prim.Native.Nat.{ℕ, _+_, _*_, _/_, _%_}
 use lib.Dec.{eqb}
 use lib.ListN.{getD}
-use Rattle.book.specs.Layout.{actionBytes, filing}
+use Rattle.notices.specs.Layout.{actionBytes, filing}
 use Rattle.sheet.specs.declared.Fields.{Fields}
 use Rattle.sheet.specs.declared.Action.{Action}
 

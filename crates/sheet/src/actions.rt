@@ -2,8 +2,8 @@
 use crate::Action;
 use crate::Fields;
 use crate::headers::word_at;
-use book::Notice;
-use book::Target;
+use notices::Notice;
+use notices::Target;
 use table::Refusal;
 ghost use mathlib.Core.Path.{_≡_};
 ghost use mathlib.Core.Bool.{false, not, _||_};
@@ -66,7 +66,7 @@ fn filing_fault(f: Fields) -> bool
         return f.mask != 0;
     }
     if f.kind == 2 {
-        return either(f.mask != 0, f.set != 0);
+        return table::either(f.mask != 0, f.set != 0);
     }
     f.kind != 3
 }
@@ -74,23 +74,17 @@ fn filing_fault(f: Fields) -> bool
 fn withdrawing_fault(f: Fields) -> bool
     ensures { λ r. ⌜ r ≡ withdrawingFault f ⌝ }
 {
-    let fabric = either(f.kind != 0, either(f.stage != 0, f.switch != 0));
-    either(fabric, either(f.mask != 0, f.set != 0))
+    let fabric = table::either(f.kind != 0, table::either(f.stage != 0, f.switch != 0));
+    table::either(fabric, table::either(f.mask != 0, f.set != 0))
 }
 
 fn routing_fault(f: Fields) -> bool
     ensures { λ r. ⌜ r ≡ routingFault f ⌝ }
 {
-    either(
-        either(f.number != 0, f.kind != 0),
-        either(f.stage != 0, f.set != 0),
+    table::either(
+        table::either(f.number != 0, f.kind != 0),
+        table::either(f.stage != 0, f.set != 0),
     )
-}
-
-fn either(a: bool, b: bool) -> bool
-    ensures { λ r. ⌜ r ≡ (a || b) ⌝ }
-{
-    if a { true } else { b }
 }
 
 // The action that has these fields.

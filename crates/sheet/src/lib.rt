@@ -3,10 +3,10 @@ mod actions; // actions.rt: an action's ten bytes
 mod headers; // headers.rt: a sheet's header, and its parts
 
 pub use actions::read_action;
-use book::Notice;
 pub use headers::action_part;
 pub use headers::has_action;
 pub use headers::read_header;
+use notices::Notice;
 use table::Refusal;
 
 // What the sheet header answers.

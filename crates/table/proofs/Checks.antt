@@ -1,8 +1,8 @@
 -- `checked` is document 01's sentence: a number is given exactly when its line holds and no earlier check failed.
 use mathlib.Core.Path.{_≡_, refl, sym, _∙_}
-use mathlib.Core.Bool.{Bool, true, false, _||_, true≢false}
-use mathlib.Core.List.{List, [], _∷_}
-use mathlib.Core.Logic.{_⊎_, inl, inr}
+use mathlib.Core.Bool.{Bool, true, false, _&&_, _||_, true≢false}
+use mathlib.Core.List.{List, [], _∷_, _++_}
+use mathlib.Core.Logic.{_⊎_, inl, inr, _↔_}
 use Prim.Native.Nat.{ℕ, zero, suc, _≤_, _<_}
 use native.Mathlib.Omega.{arith}
 use borrow.Author.Tests.{lt-ltb, le-ltb, le-leb, lt-leb, eq-eqb, ne-eqb, ltb-false, leb-false}
@@ -50,11 +50,44 @@ accepted-passed cs v w e = go (given-or-passed cs)
         absurd (omega arith)
     go (inr p) = p
 
--- and so each of them
+-- an entry that refuses was given its number by its checks
+pub refused-given : (cs : List Check) (v : List ℕ) (k : ℕ) → refused k ≡ checked cs refused (accepted v) → Given k cs
+refused-given cs v k e = go (given-or-passed cs)
+  where
+    go : ((j : ℕ) × Given j cs) ⊎ Passed cs → Given k cs
+    go (inl g) =
+        let f : refused k ≡ refused (g .0) = e ∙ given-refuses refused (accepted v) (g .0) cs (g .1) in
+        let same : g .0 ≡ k = cc in
+        rw same at (g .1)
+    go (inr p) =
+        let f : refused k ≡ accepted v = e ∙ passed-accepts refused (accepted v) cs p in
+        let z : _≡_ {A = ℕ} 0 1 = cc in
+        absurd (omega arith)
+
+-- and one that accepts says what an accepted call gives
+pub accepted-says : (cs : List Check) (v w : List ℕ) → accepted w ≡ checked cs refused (accepted v) → w ≡ v
+accepted-says cs v w e =
+    let f : accepted w ≡ accepted v = e ∙ passed-accepts refused (accepted v) cs (accepted-passed cs v w e) in
+    cc
+
+-- what passed every check passed each
 pub passed-nth : (cs : List Check) (k : ℕ) → Passed cs → getD cs k (0 when false) .holds ≡ false
 passed-nth [] k none = refl
 passed-nth (c ∷ cs) zero (passes h p) = h
 passed-nth (c ∷ cs) (suc k) (passes h p) = passed-nth cs k p
+
+-- checks and then more checks
+pub given-before : {k : ℕ} (cs ds : List Check) → Given k cs → Given k (cs ++ ds)
+given-before (c ∷ cs) ds (here h e) = here h e
+given-before (c ∷ cs) ds (later h g) = later h (given-before cs ds g)
+
+pub given-after : {k : ℕ} (cs ds : List Check) → Passed cs → Given k ds → Given k (cs ++ ds)
+given-after [] ds none g = g
+given-after (c ∷ cs) ds (passes h p) g = later h (given-after cs ds p g)
+
+pub passed-both : (cs ds : List Check) → Passed cs → Passed ds → Passed (cs ++ ds)
+passed-both [] ds none q = q
+passed-both (c ∷ cs) ds (passes h p) q = passes h (passed-both cs ds p q)
 
 -- what a test that the code made says of the test that it stands for
 pub by-test : {made meant value : Bool} → made ≡ meant → made ≡ value → meant ≡ value
@@ -72,6 +105,10 @@ one-of a b e = rw e
 
 pub other-of : (a b : Bool) → a ≡ false → b ≡ true → (a || b) ≡ true
 other-of a b e f = rw (e, f)
+
+pub both-hold : (a b : Bool) → (a && b ≡ true) ↔ ((a ≡ true) × (b ≡ true))
+both-hold true b = ((λ e. (refl, e)), (λ w. w .1))
+both-hold false b = ((λ e. absurd (true≢false (sym e))), (λ w. absurd (true≢false (sym (w .0)))))
 
 pub not-below : {made : Bool} {a b : ℕ} → made ≡ (a below b) → made ≡ false → b ≤ a
 not-below {made} {a} {b} e v = ltb-false a b (by-test e v)

@@ -1,5 +1,6 @@
 // Document 01, 'Numbers handed back': the reasons for which an entry refuses.
 ghost use mathlib.Core.Path.{_≡_};
+ghost use mathlib.Core.Bool.{_&&_, _||_};
 ghost use Rattle.table.specs.Numbers.{numberOf};
 
 // One case for each number of the table that comes alone. Number 11 comes with a stage and number 17 ends a walk: they
@@ -58,4 +59,17 @@ pub fn number(refusal: Refusal) -> u8
         Refusal::Length => 15,
         Refusal::Book => 16,
     }
+}
+
+// Two tests as one.
+pub fn both(a: bool, b: bool) -> bool
+    ensures { λ r. ⌜ r ≡ (a && b) ⌝ }
+{
+    if a { b } else { false }
+}
+
+pub fn either(a: bool, b: bool) -> bool
+    ensures { λ r. ⌜ r ≡ (a || b) ⌝ }
+{
+    if a { true } else { b }
 }

@@ -10,7 +10,7 @@ use Rattle.table.specs.Reply.{Reply, refused}
 use Rattle.table.specs.Checks.{Given, Passed, Given.here, Given.later, Passed.none, Passed.passes}
 use Rattle.table.proofs.Checks.{given-refuses, passed-accepts}
 use Rattle.book.specs.Standing.{standing}
-use Rattle.book.specs.Layout.{rows}
+use Rattle.book.specs.Rows.{rows}
 use Rattle.book.specs.Entries.{listingChecks}
 use Rattle.book.proofs.Arrays.{length-mapped}
 use Rattle.book.proofs.Placing.{length-standing}

@@ -6,7 +6,7 @@ use native.Mathlib.Omega.{arith}
 use borrow.Author.Needs.{needs}
 use lib.ListN.{length, take, drop}
 use Rattle.book.specs.Standing.{filler}
-use Rattle.book.specs.Layout.{rows}
+use Rattle.book.specs.Rows.{rows}
 use Rattle.book.proofs.Arrays.{length-mapped}
 use Rattle.book.proofs.Listings.{one-row-more}
 use Rattle.book.proofs.rows.laid.Statement.{statement}

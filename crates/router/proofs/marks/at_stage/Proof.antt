@@ -4,7 +4,7 @@ use mathlib.Core.Bool.{Bool, true, false, cond}
 use Prim.Native.Nat.{ℕ, _<_}
 use borrow.Author.Needs.{needs}
 use lib.Dec.{eqb}
-use Rattle.book.specs.declared.Notice.{Notice}
+use Rattle.notices.specs.declared.Notice.{Notice}
 use Rattle.paths.specs.declared.Stops.{Stops}
 use Rattle.router.specs.Marks.{marksOf}
 use Rattle.router.proofs.marks.at_stage.Statement.{statement}

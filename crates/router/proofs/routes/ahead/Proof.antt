@@ -8,7 +8,7 @@ use borrow.Author.Tests.{le-leb, lt-leb}
 use lib.Dec.{leb}
 use lib.ListN.{length, take, drop, getD, set, replicate, length-set}
 use Rattle.fabric.specs.Links.{lands}
-use Rattle.book.specs.declared.Notice.{Notice}
+use Rattle.notices.specs.declared.Notice.{Notice}
 use Rattle.book.specs.Standing.{filler, misfiled, stopper}
 use Rattle.book.proofs.Arrays.{length-mapped, none-left-of}
 use Rattle.paths.specs.Frontier.{high}

@@ -2,22 +2,9 @@
 use super::Notice;
 use super::Target;
 ghost use mathlib.Core.Path.{_≡_};
-ghost use mathlib.Core.Bool.{_&&_, _||_};
 ghost use Prim.Native.Nat.{_≤_, _<_};
 ghost use Rattle.fabric.specs.Labels.{size};
-ghost use Rattle.book.specs.Targets.{setHas, names, outsideFabric, badSet, badField, tooWide, unfit};
-
-pub fn both(a: bool, b: bool) -> bool
-    ensures { λ r. ⌜ r ≡ (a && b) ⌝ }
-{
-    if a { b } else { false }
-}
-
-pub fn either(a: bool, b: bool) -> bool
-    ensures { λ r. ⌜ r ≡ (a || b) ⌝ }
-{
-    if a { true } else { b }
-}
+ghost use Rattle.notices.specs.Targets.{setHas, names, outsideFabric, badSet, badField, tooWide, unfit};
 
 // Whether a set has the link of a code.
 fn set_has(set: u8, code: u8) -> bool
@@ -38,8 +25,8 @@ pub fn names(n: u8, x: Notice, stage: u8, switch: u16, code: u8) -> bool
             stage: s,
             switch: w,
             set,
-        } => both(both(stage == s, switch == w), set_has(set, code)),
-        Target::Switch { column, switch: w } => both(
+        } => table::both(table::both(stage == s, switch == w), set_has(set, code)),
+        Target::Switch { column, switch: w } => table::both(
             stage + 1 == column,
             fabric::landing(n, stage, code, switch) == w,
         ),
@@ -48,7 +35,10 @@ pub fn names(n: u8, x: Notice, stage: u8, switch: u16, code: u8) -> bool
             value,
             mask,
             set,
-        } => both(both(stage == s, switch & mask == value), set_has(set, code)),
+        } => table::both(
+            table::both(stage == s, switch & mask == value),
+            set_has(set, code),
+        ),
     }
 }
 
@@ -63,8 +53,11 @@ pub fn outside_fabric(n: u8, x: Notice) -> bool
             stage,
             switch,
             set: _,
-        } => either(n <= stage, fabric::outside_labels(n, switch)),
-        Target::Switch { column, switch } => either(n < column, fabric::outside_labels(n, switch)),
+        } => table::either(n <= stage, fabric::outside_labels(n, switch)),
+        Target::Switch { column, switch } => table::either(
+            n < column,
+            fabric::outside_labels(n, switch),
+        ),
         Target::Pattern {
             stage,
             value: _,
@@ -77,7 +70,7 @@ pub fn outside_fabric(n: u8, x: Notice) -> bool
 fn bad_set(set: u8) -> bool
     ensures { λ r. ⌜ r ≡ badSet set ⌝ }
 {
-    either(set < 1, 7 < set)
+    table::either(set < 1, 7 < set)
 }
 
 // 5
@@ -102,8 +95,8 @@ pub fn bad_field(n: u8, x: Notice) -> bool
             mask,
             set,
         } => {
-            either(
-                either(bad_set(set), fabric::outside_labels(n, mask)),
+            table::either(
+                table::either(bad_set(set), fabric::outside_labels(n, mask)),
                 value & mask != value,
             )
         }
@@ -139,5 +132,8 @@ pub fn unfit(n: u8, x: Notice) -> bool
     requires { ⌜ n ≤ 12 ⌝ }
     ensures { λ r. ⌜ r ≡ unfit n (x .target) ⌝ }
 {
-    either(either(outside_fabric(n, x), bad_field(n, x)), too_wide(x))
+    table::either(
+        table::either(outside_fabric(n, x), bad_field(n, x)),
+        too_wide(x),
+    )
 }

@@ -14,8 +14,8 @@ use lib.Count.{ones, ones-step, ones-le}
 use Rattle.table.proofs.Checks.{neither}
 use Rattle.table.specs.Checks.{_notBelow_}
 use Rattle.fabric.specs.Labels.{size}
-use Rattle.book.specs.declared.Target.the-variants.{Pattern}
-use Rattle.book.specs.Targets.{names, setHas, badSet, badField, tooWide, howMany, switchesNamed}
+use Rattle.notices.specs.declared.Target.the-variants.{Pattern}
+use Rattle.notices.specs.Targets.{names, setHas, badSet, badField, tooWide, howMany, switchesNamed}
 
 -- tests that agree pick the same number of labels
 same-tests : (f g : ℕ → Bool) → ((j : ℕ) → f j ≡ g j) → (k : ℕ) → howMany f k ≡ howMany g k

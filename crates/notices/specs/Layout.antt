@@ -1,9 +1,9 @@
 -- Document 01, 'The sheet and what is printed': the ten bytes of an action.
-use mathlib.Core.List.{List, [], _∷_, _++_}
+use mathlib.Core.List.{List, [], _∷_}
 use Prim.Native.Nat.{ℕ, _/_, _%_}
-use Rattle.book.specs.declared.Notice.{Notice}
-use Rattle.book.specs.declared.Target.{Target}
-use Rattle.book.specs.declared.Target.the-variants.{Links, Switch, Pattern}
+use Rattle.notices.specs.declared.Notice.{Notice}
+use Rattle.notices.specs.declared.Target.{Target}
+use Rattle.notices.specs.declared.Target.the-variants.{Links, Switch, Pattern}
 
 -- "Numbers are big-endian." "ten bytes an action: action 8 bits, number 16, kind 8, stage 8, switch 16, mask 16, set 8"
 abbrev pub actionBytes : ℕ → ℕ → ℕ → ℕ → ℕ → ℕ → ℕ → List ℕ
@@ -19,8 +19,3 @@ filingOf number (Pattern stage value mask set) = actionBytes 1 number 3 stage va
 
 abbrev pub filing : Notice → List ℕ
 filing x = filingOf (x .number) (x .target)
-
--- "ten bytes each as filing actions"
-unfoldable pub rows : List Notice → List ℕ
-rows [] = []
-rows (x ∷ xs) = filing x ++ rows xs

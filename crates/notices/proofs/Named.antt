@@ -14,9 +14,9 @@ use Rattle.fabric.specs.Labels.{size, bit}
 use Rattle.fabric.specs.Links.{Code, lands}
 use Rattle.fabric.proofs.Bits.{bit-lt, bit-of-low, agree-by-bits, agree-below}
 use Rattle.fabric.proofs.Links.{each-code, minus-then-plus, plus-then-minus}
-use Rattle.book.specs.declared.Target.the-variants.{Links, Switch, Pattern}
-use Rattle.book.specs.Targets.{setHas, names}
-use Rattle.book.proofs.Filings.{both-hold}
+use Rattle.notices.specs.declared.Target.the-variants.{Links, Switch, Pattern}
+use Rattle.notices.specs.Targets.{setHas, names}
+use Rattle.table.proofs.Checks.{both-hold}
 
 -- "Links: stage 0 to n-1, switch, and a set"
 pub links-names : (n stage switch s i j c : ℕ) → (names n (Links stage switch s) i j c ≡ true) ↔ ((i ≡ stage) × (j ≡ switch) × (setHas s c ≡ true))

@@ -1,7 +1,7 @@
 -- Each arm is 01's test of its target.
 use borrow.Author.Needs.{needs}
-use Rattle.book.proofs.targets.bad_field.Statement.{statement}
-use Rattle.book.proofs.targets.bad_field.Tie as tie
+use Rattle.notices.proofs.targets.bad_field.Statement.{statement}
+use Rattle.notices.proofs.targets.bad_field.Tie as tie
 
 enum-known-t : tie.Need-enum-known-t
 enum-known-t c = search needs

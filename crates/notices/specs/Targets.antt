@@ -7,8 +7,8 @@ use lib.Count.{ones}
 use Rattle.table.specs.Checks.{_below_, _notBelow_}
 use Rattle.fabric.specs.Labels.{size, bit}
 use Rattle.fabric.specs.Links.{lands}
-use Rattle.book.specs.declared.Target.{Target}
-use Rattle.book.specs.declared.Target.the-variants.{Links, Switch, Pattern}
+use Rattle.notices.specs.declared.Target.{Target}
+use Rattle.notices.specs.declared.Target.the-variants.{Links, Switch, Pattern}
 
 -- "a set (straight 1, plus 2, minus 4, added; 1 to 7)": code c is in the set where the set's bit c is one
 abbrev pub setHas : ℕ → ℕ → Bool

@@ -1,7 +1,7 @@
 -- Each arm lays out its target as 01 says.
 use borrow.Author.Needs.{needs}
-use Rattle.book.proofs.rows.filing.Statement.{statement}
-use Rattle.book.proofs.rows.filing.Tie as tie
+use Rattle.notices.proofs.filings.filing.Statement.{statement}
+use Rattle.notices.proofs.filings.filing.Tie as tie
 
 enum-known-t : tie.Need-enum-known-t
 enum-known-t c = search needs

@@ -1,7 +1,7 @@
 -- Only a pattern can be too wide.
 use borrow.Author.Needs.{needs}
-use Rattle.book.proofs.targets.too_wide.Statement.{statement}
-use Rattle.book.proofs.targets.too_wide.Tie as tie
+use Rattle.notices.proofs.targets.too_wide.Statement.{statement}
+use Rattle.notices.proofs.targets.too_wide.Tie as tie
 
 enum-told : tie.Need-enum-told
 enum-told c = search needs

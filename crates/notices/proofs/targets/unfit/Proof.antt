@@ -1,7 +1,7 @@
 -- The three tests of a target, joined.
 use borrow.Author.Needs.{needs}
-use Rattle.book.proofs.targets.unfit.Statement.{statement}
-use Rattle.book.proofs.targets.unfit.Tie as tie
+use Rattle.notices.proofs.targets.unfit.Statement.{statement}
+use Rattle.notices.proofs.targets.unfit.Tie as tie
 
 outside-fabric-requires : tie.Need-outside-fabric-requires
 outside-fabric-requires c κs = search needs
