@@ -61,12 +61,12 @@ fn run(sheet: &[u8], memory: &mut [u8]) {
 fn print(memory: &[u8], bytes: usize)
     requires { ⌜ bytes ≤ length (now memory) ⌝ }
 {
-    lines::word(&memory[..bytes]);
-    lines::word(b"\n");
+    show::word(&memory[..bytes]);
+    show::word(b"\n");
 }
 
 fn refused(why: Refusal) {
-    lines::word(b"MEMORY");
-    lines::refused(why);
-    lines::word(b"\n\n");
+    show::word(b"MEMORY");
+    show::refused(why);
+    show::word(b"\n\n");
 }

@@ -1,4 +1,4 @@
--- What a run prints is determined: no action has a second line, and no sheet a second text.
+-- What a run prints is determined: no sheet has a second text.
 use mathlib.Core.Path.{_≡_, refl, sym, ap, ap₂, _∙_}
 use mathlib.Core.Logic.{_⊎_, inl, inr}
 use mathlib.Core.List.{List, [], _∷_, _++_}
@@ -12,35 +12,16 @@ use Rattle.table.proofs.Numbers.{number-tells}
 use Rattle.table.proofs.Checks.{given-or-passed}
 use Rattle.book.specs.declared.Book.{Book}
 use Rattle.book.specs.declared.Kept.{Kept}
-use Rattle.book.proofs.Once.{opens-once, files-once, withdraws-once}
-use Rattle.router.proofs.Entries.{route-once}
+use Rattle.book.proofs.Once.{opens-once}
 use Rattle.sheet.specs.declared.Header.{Header}
-use Rattle.sheet.specs.declared.Action.{Action}
 use Rattle.sheet.specs.Entries.{partOf}
-use Rattle.sheet.proofs.Sheets.{header-once, action-once}
+use Rattle.sheet.proofs.Sheets.{header-once}
+use Rattle.lines.proofs.Once.{line-at-once}
 use Rattle.printed.specs.declared.Ran.{Ran}
-use Rattle.printed.specs.Text.{sheetLine, fileLine, withdrawLine, routeLine}
-use Rattle.printed.specs.Lines.{LineOf, LineAt, Lines, Lines.start, Lines.more, Prints, runChecks, ranSays, RunsBy, Runs}
+use Rattle.lines.specs.Text.{sheetLine}
+use Rattle.printed.specs.Runs.{Lines, Lines.start, Lines.more, Prints, runChecks, ranSays, RunsBy, Runs}
 
--- an action has one line, and leaves one book
-pub line-once : (n : ℕ) (b : Book) (a : Action) (x y : List ℕ) (c d : Book) → LineOf n b a x c → LineOf n b a y d → (x ≡ y) × (c ≡ d)
-line-once n b (Action.File z) x y c d p q =
-    let e = files-once b z (p .0) (q .0) (p .1) (q .1) in
-    (p .2 ∙ ap (λ (r : Kept). fileLine (z .number) (r .answer)) e ∙ sym (q .2), p .3 ∙ ap (λ (r : Kept). r .book) e ∙ sym (q .3))
-line-once n b (Action.Withdraw k) x y c d p q =
-    let e = withdraws-once b k (p .0) (q .0) (p .1) (q .1) in
-    (p .2 ∙ ap (λ (r : Kept). withdrawLine k (r .answer)) e ∙ sym (q .2), p .3 ∙ ap (λ (r : Kept). r .book) e ∙ sym (q .3))
-line-once n b (Action.Route s t) x y c d p q =
-    let e = route-once b s t (p .0) (q .0) (p .1) (q .1) in
-    (p .2 ∙ ap (routeLine n s t) e ∙ sym (q .2), p .3 ∙ sym (q .3))
-line-once n b (Action.Refused why) x y c d p q = (p .0 ∙ sym (q .0), p .1 ∙ sym (q .1))
-
-pub line-at-once : (n : ℕ) (b : Book) (part x y : List ℕ) (c d : Book) → LineAt n b part x c → LineAt n b part y d → (x ≡ y) × (c ≡ d)
-line-at-once n b part x y c d p q =
-    let e = action-once part (p .action) (q .action) (p .reads) (q .reads) in
-    line-once n b (q .action) x y c d (rw e at (p .tells)) (q .tells)
-
--- and a sheet one text
+-- a sheet has one text
 pub lines-once : (sheet : List ℕ) (n k : ℕ) (x y : List ℕ) (b c : Book) → Lines sheet n k x b → Lines sheet n k y c → (x ≡ y) × (b ≡ c)
 lines-once sheet n k x y b c (start {r = q} p) (start {r = r} o) = (refl, ap (λ (z : Kept). z .book) (opens-once n q r p o))
 lines-once sheet n k x y b c (more {k = j} {text = text₁} {next = next₁} {b = b₁} v p) (more {text = text₂} {next = next₂} {b = b₂} w q) =

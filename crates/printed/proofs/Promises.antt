@@ -1,7 +1,7 @@
--- A line is told by what its action's entry answers; a run refuses by its one check, or prints what its header asks.
+-- A run refuses by its one check, or prints what its header asks.
 use mathlib.Core.Path.{_≡_, refl, sym, ap, _∙_}
 use mathlib.Core.Logic.{_⊎_, inl, inr}
-use mathlib.Core.List.{List, [], _∷_, _++_}
+use mathlib.Core.List.{List, [], _∷_}
 use Prim.Native.Nat.{ℕ, _+_, _≤_, _<_}
 use native.Mathlib.Nat.{zero-add}
 use native.Mathlib.Omega.{arith}
@@ -11,26 +11,14 @@ use Rattle.table.specs.declared.Refusal.{Refusal}
 use Rattle.table.specs.Reply.{Reply.accepted, refused}
 use Rattle.table.specs.Checks.{Given, Given.here, Passed, Passed.none, Passed.passes, _below_}
 use Rattle.table.proofs.Checks.{given-or-passed, given-once, not-given-and-passed, passed-nth, neither}
-use Rattle.book.specs.declared.Book.{Book}
 use Rattle.sheet.specs.declared.Header.{Header}
-use Rattle.sheet.specs.declared.Action.{Action}
 use Rattle.sheet.specs.Format.{sizeIn}
-use Rattle.sheet.specs.Entries.{headerChecks, ReadsHeader, ReadsAction}
+use Rattle.sheet.specs.Entries.{headerChecks, ReadsHeader}
 use Rattle.sheet.proofs.Promises.{header-passed, header-fields}
 use Rattle.printed.specs.declared.Ran.{Ran}
-use Rattle.printed.specs.declared.Next.{Next}
-use Rattle.printed.specs.Wrote.{Wrote}
-use Rattle.printed.specs.Lines.{LineWritten, LineAtWritten, Prints, room, runChecks, ranSays, RunsBy, Runs}
-
--- a line of the action that was read
-pub line-read : {n at : ℕ} {b : Book} {part before after : List ℕ} {r : Next} {a told : Action}
-    → ReadsAction part a → a ≡ told → LineWritten n b told before at after r → LineAtWritten n b part before at after r
-line-read {told = told} reads e w =
-    record { text = w .text; tells = record { action = told; reads = rw e at reads; tells = w .tells }; wrote = w .wrote; short = w .short }
-
--- a text written at the front
-pub wrote-front : {before text after : List ℕ} {next : ℕ} → Wrote before 0 text after next → after ≡ text ++ drop (length text) before
-wrote-front {before} {text} w = w .leaves ∙ ap (λ (k : ℕ). text ++ drop k before) (zero-add (length text))
+use Rattle.words.specs.Wrote.{Wrote}
+use Rattle.words.proofs.Writing.{wrote-front}
+use Rattle.printed.specs.Runs.{Prints, room, runChecks, ranSays, RunsBy, Runs}
 
 -- a header that is accepted has a size that fits
 pub few-stages : {sheet : List ℕ} {h : Header} {n count : ℕ} → ReadsHeader sheet h → h ≡ Header.Sheet n count → n ≤ 12

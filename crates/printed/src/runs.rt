@@ -1,18 +1,18 @@
 // A whole sheet, from its bytes to the bytes printed.
 use crate::Ran;
-use crate::lines::action_line;
-use crate::lines::refusal_told;
-use crate::words::number;
-use crate::words::word;
 use book::Book;
+use lines::action_line;
 use sheet::Header;
 use table::Refusal;
+use words::number;
+use words::refusal_told;
+use words::word;
 ghost use Prim.Native.Nat.{ℕ, _+_, _*_, _≤_};
 ghost use mathlib.Core.List.{List};
 ghost use lib.ListN.{length};
-ghost use Rattle.printed.specs.Text.{sheetLine};
-ghost use Rattle.printed.specs.Wrote.{Wrote};
-ghost use Rattle.printed.specs.Lines.{LinesWritten, RunsBy, Runs};
+ghost use Rattle.lines.specs.Text.{sheetLine};
+ghost use Rattle.words.specs.Wrote.{Wrote};
+ghost use Rattle.printed.specs.Runs.{LinesWritten, RunsBy, Runs};
 
 // Prints what running a sheet prints, at the front of the memory. It asks for 24 bytes and 48 for each action.
 pub fn run(sheet: &[u8], out: &mut [u8]) -> Ran

@@ -1,13 +1,13 @@
 // Runs routes and walks on document 01's examples and on bad input, through open, file, route and walk, and prints a line
 // for each call.
 use book::Book;
-use lines::number;
-use lines::refused;
-use lines::word;
 use notices::Notice;
 use notices::Target;
 use router::Ended;
 use router::Found;
+use show::number;
+use show::refused;
+use show::word;
 
 fn main() {
     one_to_six();

@@ -1,8 +1,8 @@
 // Runs the entries of the crate tags on examples of documents 01 and 000 and on bad input, and prints a line for each call.
-use lines::bytes;
-use lines::number;
-use lines::refused;
-use lines::word;
+use show::bytes;
+use show::number;
+use show::refused;
+use show::word;
 use tags::Tag;
 use tags::Written;
 ghost use Prim.Native.Nat.{_≤_};

@@ -6,8 +6,8 @@ use native.Mathlib.Omega.{arith}
 use native.Mathlib.Numerals.{add-one}
 use borrow.Author.Needs.{needs}
 use lib.ListN.{length}
-use Rattle.printed.specs.Lines.{Lines.start, Lines.more, LinesWritten}
-use Rattle.printed.proofs.Writing.{wrote-more, wrote-none}
+use Rattle.printed.specs.Runs.{Lines.start, Lines.more, LinesWritten}
+use Rattle.words.proofs.Writing.{wrote-more, wrote-none}
 use Rattle.printed.proofs.runs.lines.Statement.{statement}
 use Rattle.printed.proofs.runs.lines.Tie as tie
 

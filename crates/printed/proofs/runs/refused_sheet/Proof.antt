@@ -3,7 +3,7 @@ use mathlib.Core.Path.{refl}
 use native.Mathlib.Omega.{arith}
 use borrow.Author.Needs.{needs}
 use Rattle.sheet.specs.declared.Header.{Header}
-use Rattle.printed.proofs.Writing.{wrote-more}
+use Rattle.words.proofs.Writing.{wrote-more}
 use Rattle.printed.proofs.Promises.{runs-short, runs-whole}
 use Rattle.printed.proofs.runs.refused_sheet.Statement.{statement}
 use Rattle.printed.proofs.runs.refused_sheet.Tie as tie

@@ -1,7 +1,7 @@
 -- The word and two numbers, one after the other.
 use native.Mathlib.Omega.{arith}
 use borrow.Author.Needs.{needs}
-use Rattle.printed.proofs.Writing.{wrote-more}
+use Rattle.words.proofs.Writing.{wrote-more}
 use Rattle.printed.proofs.runs.sheet_line.Statement.{statement}
 use Rattle.printed.proofs.runs.sheet_line.Tie as tie
 

@@ -1,0 +1,40 @@
+-- Document 01, 'The sheet and what is printed': the line of an action, by what its entry answers.
+use mathlib.Core.Path.{_≡_}
+use mathlib.Core.List.{List}
+use Prim.Native.Nat.{ℕ, _+_, _≤_}
+use Rattle.words.specs.Wrote.{Wrote}
+use Rattle.book.specs.declared.Book.{Book}
+use Rattle.book.specs.declared.Kept.{Kept}
+use Rattle.book.specs.Entries.{Files, Withdraws}
+use Rattle.router.specs.declared.Found.{Found}
+use Rattle.router.specs.Entries.{Routes}
+use Rattle.sheet.specs.declared.Action.{Action}
+use Rattle.sheet.specs.Entries.{ReadsAction}
+use Rattle.lines.specs.declared.Next.{Next}
+use Rattle.lines.specs.Text.{fileLine, withdrawLine, routeLine, faultLine}
+
+-- the line of one action over a book, by what the action's entry answers, and the book after it
+abbrev pub LineOf : ℕ → Book → Action → List ℕ → Book → Type 0
+LineOf n b (Action.File x) text after = (r : Kept) × Files b x r × (text ≡ fileLine (x .number) (r .answer)) × (after ≡ r .book)
+LineOf n b (Action.Withdraw k) text after = (r : Kept) × Withdraws b k r × (text ≡ withdrawLine k (r .answer)) × (after ≡ r .book)
+LineOf n b (Action.Route s d) text after = (r : Found) × Routes b s d r × (text ≡ routeLine n s d r) × (after ≡ b)
+LineOf n b (Action.Refused why) text after = (text ≡ faultLine why) × (after ≡ b)
+
+-- the line of a part of a sheet, as the action reader reads it
+pub record LineAt (n : ℕ) (b : Book) (part text : List ℕ) (after : Book) : Type 0 where
+  pub action : Action
+  pub reads : ReadsAction part action
+  pub tells : LineOf n b action text after
+
+-- how the functions that write lines speak to each other: one action's line was written at a place, and what is handed on
+pub record LineWritten (n : ℕ) (b : Book) (a : Action) (before : List ℕ) (at : ℕ) (after : List ℕ) (r : Next) : Type 0 where
+  pub text : List ℕ
+  pub tells : LineOf n b a text (r .book)
+  pub wrote : Wrote before at text after (r .at)
+  pub short : r .at ≤ at + 48
+
+pub record LineAtWritten (n : ℕ) (b : Book) (part before : List ℕ) (at : ℕ) (after : List ℕ) (r : Next) : Type 0 where
+  pub text : List ℕ
+  pub tells : LineAt n b part text (r .book)
+  pub wrote : Wrote before at text after (r .at)
+  pub short : r .at ≤ at + 48

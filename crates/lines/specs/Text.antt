@@ -1,0 +1,40 @@
+-- Document 01, 'The sheet and what is printed': the lines.
+use mathlib.Core.List.{List, [], _∷_}
+use Prim.Native.Nat.{ℕ}
+use Rattle.table.specs.declared.Refusal.{Refusal}
+use Rattle.words.specs.Words.{decimal, tagBits, line, refusal, SHEET, FILE, WITHDRAW, ROUTE, ACTION, OK, TAG, NONE}
+use Rattle.book.specs.declared.Answer.{Answer}
+use Rattle.router.specs.declared.Found.{Found}
+
+-- "`OK`, or `REFUSED` and the table number"
+abbrev pub told : Answer → List (List ℕ)
+told Answer.Done = OK ∷ []
+told (Answer.Refused why) = refusal why
+
+-- "`TAG` with bits 0 to 2n-1 in that order, `NONE` with the stage, or `REFUSED` with the table number"
+abbrev pub foundTold : ℕ → Found → List (List ℕ)
+foundTold n (Found.Tag tag) = TAG ∷ tagBits n tag ∷ []
+foundTold n (Found.None stage) = NONE ∷ decimal stage ∷ []
+foundTold n (Found.Refused why) = refusal why
+
+-- "First line: `SHEET n count`, or only `SHEET REFUSED k`."
+abbrev pub sheetLine : ℕ → ℕ → List ℕ
+sheetLine n count = line SHEET (decimal n ∷ decimal count ∷ [])
+
+abbrev pub refusedSheet : Refusal → List ℕ
+refusedSheet why = line SHEET (refusal why)
+
+-- "`FILE` or `WITHDRAW` is followed by the notice number and `OK`, or `REFUSED` and the table number."
+abbrev pub fileLine : ℕ → Answer → List ℕ
+fileLine number answer = line FILE (decimal number ∷ told answer)
+
+abbrev pub withdrawLine : ℕ → Answer → List ℕ
+withdrawLine number answer = line WITHDRAW (decimal number ∷ told answer)
+
+-- "`ROUTE` is followed by source, destination and .."
+abbrev pub routeLine : ℕ → ℕ → ℕ → Found → List ℕ
+routeLine n source destination answer = line ROUTE (decimal source ∷ decimal destination ∷ foundTold n answer)
+
+-- "A layout fault prints `ACTION REFUSED 2`."
+abbrev pub faultLine : Refusal → List ℕ
+faultLine why = line ACTION (refusal why)

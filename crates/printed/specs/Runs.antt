@@ -1,0 +1,61 @@
+-- Document 01, 'The sheet and what is printed': what running a sheet prints.
+use mathlib.Core.Path.{_≡_}
+use mathlib.Core.List.{List, [], _∷_, _++_}
+use Prim.Native.Nat.{ℕ, suc, _+_, _*_}
+use lib.ListN.{length, drop}
+use Rattle.table.specs.Numbers.{numberOf}
+use Rattle.table.specs.Reply.{Reply, refused}
+use Rattle.table.specs.Checks.{Check, Given, Passed, _when_, _below_}
+use Rattle.book.specs.declared.Book.{Book}
+use Rattle.book.specs.declared.Kept.{Kept}
+use Rattle.book.specs.Entries.{Opens}
+use Rattle.sheet.specs.declared.Header.{Header}
+use Rattle.sheet.specs.Entries.{ReadsHeader, partOf}
+use Rattle.lines.specs.Lines.{LineAt}
+use Rattle.printed.specs.declared.Ran.{Ran}
+use Rattle.lines.specs.Text.{sheetLine, refusedSheet}
+use Rattle.words.specs.Wrote.{Wrote}
+
+-- "starting from an empty book", "a line per action": the lines of a sheet's first actions, and the book after them
+pub data Lines (sheet : List ℕ) (n : ℕ) : ℕ → List ℕ → Book → Type 0 where
+  start : {r : Kept} → Opens n r → Lines sheet n 0 [] (r .book)
+  more : {k : ℕ} {text next : List ℕ} {b c : Book} → Lines sheet n k text b → LineAt n b (partOf sheet k) next c → Lines sheet n (suc k) (text ++ next) c
+
+-- all that is printed of a sheet with this header
+abbrev pub Prints : List ℕ → Header → List ℕ → Type 0
+Prints sheet (Header.Sheet n count) text = (lines : List ℕ) × (b : Book) × Lines sheet n count lines b × (text ≡ sheetLine n count ++ lines)
+Prints sheet (Header.Refused why) text = text ≡ refusedSheet why
+
+-- the room that a run asks for, whatever it prints: 24 bytes for the first line and 48 for each action. `runs-fit` says that
+-- the whole text then lies within it.
+abbrev pub room : Header → ℕ
+room (Header.Sheet n count) = 24 + 48 * count
+room (Header.Refused why) = 24
+
+abbrev pub runChecks : Header → List ℕ → List Check
+runChecks header memory = (13 when length memory below room header) ∷ []
+
+-- the number and values of a run's answer: how many bytes it wrote
+abbrev pub ranSays : Ran → Reply
+ranSays (Ran.Printed bytes) = Reply.accepted (bytes ∷ [])
+ranSays (Ran.Refused why) = refused (numberOf why)
+
+-- a run writes what is printed at the front of the lent memory; the rest stays
+abbrev pub Printed : List ℕ → Header → List ℕ → Ran → List ℕ → Type 0
+Printed sheet header before answer after =
+    (text : List ℕ) × Prints sheet header text × (ranSays answer ≡ Reply.accepted (length text ∷ [])) × (after ≡ text ++ drop (length text) before)
+
+pub record RunsBy (sheet : List ℕ) (header : Header) (before : List ℕ) (answer : Ran) (after : List ℕ) : Type 0 where
+  pub refuses : (k : ℕ) → Given k (runChecks header before) → (ranSays answer ≡ refused k) × (after ≡ before)
+  pub prints : Passed (runChecks header before) → Printed sheet header before answer after
+
+pub record Runs (sheet before : List ℕ) (answer : Ran) (after : List ℕ) : Type 0 where
+  pub header : Header
+  pub reads : ReadsHeader sheet header
+  pub runs : RunsBy sheet header before answer after
+
+-- the lines of a sheet were written at a place
+pub record LinesWritten (sheet : List ℕ) (n count : ℕ) (before : List ℕ) (at : ℕ) (after : List ℕ) (next : ℕ) (b : Book) : Type 0 where
+  pub text : List ℕ
+  pub tells : Lines sheet n count text b
+  pub wrote : Wrote before at text after next

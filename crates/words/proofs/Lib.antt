@@ -1,0 +1,4 @@
+-- numbers as text
+pub mod Decimals
+-- texts written one after the other
+pub mod Writing

@@ -1,0 +1,64 @@
+-- Laws of writing: one text after another, a byte after a text, and a text laid byte by byte.
+use mathlib.Core.Path.{_≡_, refl, sym, ap, ap₂, _∙_}
+use mathlib.Core.List.{List, [], _∷_, _++_, append-assoc}
+use Prim.Native.Nat.{ℕ, _+_, _≤_, _<_}
+use native.Mathlib.Nat.{add-zero, zero-add}
+use native.Mathlib.Numerals.{add-one}
+use native.Mathlib.Omega.{arith}
+use lib.ListN.{length, take, drop, set, length-append}
+use lib.Seq.{paste, paste-zero, take-all, take-at, drop-append-add, drop-drop, length-take-le, append-snoc, set-split}
+use Rattle.words.specs.Wrote.{Wrote}
+
+module _ (before : List ℕ) (at : ℕ) (fits : at ≤ length before) where
+  -- what stands before the place after a text
+  ahead : (text : List ℕ) → length (take at before ++ text) ≡ at + length text
+  ahead text = let l = length-take-le at before fits in length-append (take at before) text ∙ omega arith
+
+  -- one text and then another
+  pub wrote-more : {a b between after : List ℕ} {p q : ℕ} → Wrote before at a between p → Wrote between p b after q → Wrote before at (a ++ b) after q
+  wrote-more {a} {b} {between} {after} {p} {q} v w =
+      let here : List ℕ = take at before ++ a in
+      let rest : List ℕ = drop (at + length a) before in
+      let e : between ≡ here ++ rest = v .leaves in
+      let l : length here ≡ p = ahead a ∙ sym (v .ends) in
+      let n : length (a ++ b) ≡ length a + length b = length-append a b in
+      let front : take p between ≡ here = ap (take p) e ∙ take-at here rest p l in
+      let back : drop (p + length b) between ≡ drop (at + length (a ++ b)) before =
+      ap (drop (p + length b)) e
+      ∙ ap (λ (k : ℕ). drop (k + length b) (here ++ rest)) (sym l)
+      ∙ drop-append-add here rest (length b)
+      ∙ drop-drop (length b) (at + length a) before
+      ∙ ap (λ (k : ℕ). drop k before) {x = at + length a + length b} {y = at + length (a ++ b)} (omega arith) in
+      record {
+        leaves =
+            w .leaves
+            ∙ ap₂ (λ (x y : List ℕ). x ++ b ++ y) front back
+            ∙ ap (λ (x : List ℕ). x ++ drop (at + length (a ++ b)) before) (append-assoc (take at before) a b);
+        ends = let x = v .ends in let y = w .ends in omega arith;
+      }
+
+  -- nothing
+  pub wrote-none : Wrote before at [] before at
+  wrote-none = record { leaves = paste-zero before at []; ends = sym (add-zero at) }
+
+  -- a byte
+  pub wrote-byte : (x : ℕ) → at < length before → Wrote before at (x ∷ []) (set before at x) (at + 1)
+  wrote-byte x h =
+      record {
+        leaves = set-split before at x h ∙ ap (λ (k : ℕ). take at before ++ x ∷ drop k before) (sym (add-one at)) ∙ sym (append-snoc (take at before) x (drop (at + 1) before));
+        ends = refl;
+      }
+
+  -- a whole text, laid byte by byte
+  pub wrote-laid : {text after : List ℕ} {n next : ℕ} → after ≡ paste before at text n → n ≡ length text → next ≡ at + n → Wrote before at text after next
+  wrote-laid {text} {after} {n} {next} e l f =
+      record {
+        leaves =
+            e
+            ∙ ap₂ (λ (x : List ℕ) (k : ℕ). take at before ++ x ++ drop (at + k) before) (take-all n text (omega arith)) l;
+        ends = omega arith;
+      }
+
+-- a text written at the front
+pub wrote-front : {before text after : List ℕ} {next : ℕ} → Wrote before 0 text after next → after ≡ text ++ drop (length text) before
+wrote-front {before} {text} w = w .leaves ∙ ap (λ (k : ℕ). text ++ drop k before) (zero-add (length text))

@@ -1,0 +1,64 @@
+// Document 01, 'The sheet and what is printed': words and numbers, written at a place of lent memory. Each function answers the
+// place after them.
+use table::Refusal;
+ghost use mathlib.Core.Path.{_≡_};
+ghost use Prim.Native.Nat.{_+_, _≤_};
+ghost use lib.ListN.{length};
+ghost use Rattle.words.specs.Words.{decimal, bitsFrom, ending, refusal};
+ghost use Rattle.words.specs.Wrote.{Wrote};
+
+pub fn word(out: &mut [u8], at: usize, text: &[u8]) -> usize
+    requires { ⌜ at + length (now text) ≤ length (now out) ⌝ }
+    ensures { λ r. ⌜ Wrote (now (out .entry)) at (now (text .entry)) (now (out .exit)) r ⌝ }
+{
+    let mut j = 0;
+    while j < text.len() {
+        out[at + j] = text[j];
+        j += 1;
+    }
+    at + j
+}
+
+// A number in decimal.
+pub fn number(out: &mut [u8], at: usize, x: u16) -> usize
+    requires { ⌜ at + 5 ≤ length (now out) ⌝ }
+    ensures { λ r. ⌜ (Wrote (now (out .entry)) at (decimal x) (now (out .exit)) r) × (r ≤ at + 5) ⌝ }
+{
+    digits(out, at, x)
+}
+
+fn digits(out: &mut [u8], at: usize, x: u16) -> usize
+    requires { ⌜ at + length (decimal x) ≤ length (now out) ⌝ }
+    ensures { λ r. ⌜ Wrote (now (out .entry)) at (decimal x) (now (out .exit)) r ⌝ }
+{
+    if x < 10 {
+        out[at] = 48 + x as u8;
+        return at + 1;
+    }
+    let last = digits(out, at, x / 10);
+    out[last] = 48 + (x % 10) as u8;
+    last + 1
+}
+
+// Bits 0 to count - 1, in that order.
+pub fn bits(out: &mut [u8], at: usize, count: u8, x: u32) -> usize
+    requires { ⌜ (at + count ≤ length (now out)) × (count ≤ 24) ⌝ }
+    ensures { λ r. ⌜ (Wrote (now (out .entry)) at (bitsFrom 0 count x) (now (out .exit)) r) × (r ≡ at + count) ⌝ }
+{
+    let mut i = 0;
+    while i < count {
+        out[at + i as usize] = 48 + ((x >> i) % 2) as u8;
+        i += 1;
+    }
+    at + count as usize
+}
+
+// "`REFUSED` and the table number"
+pub fn refusal_told(out: &mut [u8], at: usize, why: Refusal) -> usize
+    requires { ⌜ at + 15 ≤ length (now out) ⌝ }
+    ensures { λ r. ⌜ (Wrote (now (out .entry)) at (ending (refusal why)) (now (out .exit)) r) × (r ≤ at + 15) ⌝ }
+{
+    let mid = word(out, at, b" REFUSED ");
+    let end = number(out, mid, table::number(why) as u16);
+    word(out, end, b"\n")
+}
