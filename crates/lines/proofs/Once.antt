@@ -6,8 +6,8 @@ use Rattle.book.specs.declared.Book.{Book}
 use Rattle.book.specs.declared.Kept.{Kept}
 use Rattle.book.proofs.Once.{files-once, withdraws-once}
 use Rattle.router.proofs.Entries.{route-once}
-use Rattle.sheet.specs.declared.Action.{Action}
-use Rattle.sheet.proofs.Sheets.{action-once}
+use Rattle.actions.specs.declared.Action.{Action}
+use Rattle.actions.proofs.Actions.{action-once}
 use Rattle.lines.specs.Text.{fileLine, withdrawLine, routeLine}
 use Rattle.lines.specs.Lines.{LineOf, LineAt}
 

@@ -3,8 +3,8 @@ use mathlib.Core.Path.{_≡_}
 use mathlib.Core.List.{List}
 use Prim.Native.Nat.{ℕ}
 use Rattle.book.specs.declared.Book.{Book}
-use Rattle.sheet.specs.declared.Action.{Action}
-use Rattle.sheet.specs.Entries.{ReadsAction}
+use Rattle.actions.specs.declared.Action.{Action}
+use Rattle.actions.specs.Entries.{ReadsAction}
 use Rattle.lines.specs.declared.Next.{Next}
 use Rattle.lines.specs.Lines.{LineWritten, LineAtWritten}
 

@@ -8,8 +8,8 @@ use Rattle.book.specs.declared.Kept.{Kept}
 use Rattle.book.specs.Entries.{Files, Withdraws}
 use Rattle.router.specs.declared.Found.{Found}
 use Rattle.router.specs.Entries.{Routes}
-use Rattle.sheet.specs.declared.Action.{Action}
-use Rattle.sheet.specs.Entries.{ReadsAction}
+use Rattle.actions.specs.declared.Action.{Action}
+use Rattle.actions.specs.Entries.{ReadsAction}
 use Rattle.lines.specs.declared.Next.{Next}
 use Rattle.lines.specs.Text.{fileLine, withdrawLine, routeLine, faultLine}
 

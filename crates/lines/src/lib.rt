@@ -1,9 +1,9 @@
 // Document 01, 'The sheet and what is printed': the line of an action, written at a place of lent memory.
+use actions::Action;
 use book::Answer;
 use book::Book;
 use notices::Notice;
 use router::Found;
-use sheet::Action;
 use table::Refusal;
 use words::bits;
 use words::number;
@@ -27,7 +27,7 @@ pub fn action_line(n: u8, book: Book, part: &[u8], out: &mut [u8], at: usize) ->
     requires { ⌜ (n ≤ 12) × (at + 48 ≤ length (now out)) ⌝ }
     ensures { λ r. ⌜ LineAtWritten n book (now (part .entry)) (now (out .entry)) at (now (out .exit)) r ⌝ }
 {
-    match sheet::read_action(part) {
+    match actions::read_action(part) {
         Action::File(notice) => file_line(book, notice, out, at),
         Action::Withdraw(k) => withdraw_line(book, k, out, at),
         Action::Route {

@@ -1,7 +1,7 @@
 -- Demand 3 for the program: the run of a sheet is a run of filings and withdrawals from an empty book, so each line that it prints
 -- is the line of the new book into which only the notices accepted and not withdrawn since were filed.
 use mathlib.Core.Path.{_≡_, refl, sym, ap, ap₂, subst, _∙_}
-use mathlib.Core.List.{List, [], _∷_, _++_, map, List·Memᴰ}
+use mathlib.Core.List.{List, [], _++_, map, List·Memᴰ}
 use mathlib.Core.Logic.{_↔_}
 use Prim.Native.Nat.{ℕ}
 use Rattle.notices.specs.declared.Notice.{Notice}
@@ -10,10 +10,10 @@ use Rattle.book.specs.Entries.{opened}
 use Rattle.book.specs.Runs.{Change, run, StandsSince, Distinct}
 use Rattle.book.proofs.Changes.{opens-leaves, files-change, withdraws-change}
 use Rattle.book.proofs.Since.{run-on, same-book}
-use Rattle.sheet.specs.declared.Action.{Action}
+use Rattle.actions.specs.declared.Action.{Action}
 use Rattle.sheet.specs.declared.Header.{Header}
 use Rattle.sheet.specs.Entries.{partOf}
-use Rattle.sheet.proofs.Sheets.{action-once}
+use Rattle.actions.proofs.Actions.{action-once}
 use Rattle.lines.specs.Text.{sheetLine}
 use Rattle.lines.specs.Lines.{LineOf, LineAt}
 use Rattle.printed.specs.Runs.{Lines, Lines.start, Lines.more, Prints}

@@ -10,7 +10,7 @@ use borrow.Author.Tests.{eqb-true}
 use lib.Dec.{eqb}
 use lib.ListN.{length}
 use Rattle.table.specs.Numbers.{numberOf}
-use Rattle.table.specs.Reply.{Reply, Reply.accepted, refused}
+use Rattle.table.specs.Reply.{Reply.accepted, refused}
 use Rattle.table.specs.Checks.{Passed, _below_}
 use Rattle.table.proofs.Checks.{given-or-passed, passed-accepts, passed-nth, accepted-passed, neither}
 use Rattle.fabric.specs.Labels.{outsideSizes}
@@ -24,7 +24,7 @@ use Rattle.book.specs.declared.Link.{Link}
 use Rattle.notices.specs.declared.Target.the-variants.{Links}
 use Rattle.notices.specs.Targets.{names}
 use Rattle.book.specs.Standing.{standing, unused, stopper, stands, insert, without, misfiled, littered, unsound}
-use Rattle.book.specs.Entries.{answerSays, linkSays, opened, fileChecks, withdrawChecks, linkChecks, filed, withdrawn, Files, Withdraws, Tests}
+use Rattle.book.specs.Entries.{answerSays, linkSays, opened, fileChecks, withdrawChecks, linkChecks, filed, withdrawn, Files, Tests}
 use Rattle.book.specs.Runs.{run}
 use Rattle.book.proofs.Members.{insert-length, without-keeps}
 use Rattle.book.proofs.Changes.{standing-of}

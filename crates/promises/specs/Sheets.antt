@@ -3,8 +3,9 @@
 use mathlib.Core.List.{List, [], _∷_, _++_}
 use Prim.Native.Nat.{ℕ, suc}
 use Rattle.book.specs.Runs.{Change}
-use Rattle.sheet.specs.declared.Action.{Action}
-use Rattle.sheet.specs.Entries.{partOf, ReadsAction}
+use Rattle.actions.specs.declared.Action.{Action}
+use Rattle.sheet.specs.Entries.{partOf}
+use Rattle.actions.specs.Entries.{ReadsAction}
 
 -- "Action 1 files", "Action 2 withdraws": these are changes. A route changes nothing, and a layout fault is no action.
 abbrev pub changesOf : Action → List Change

@@ -1,5 +1,3 @@
--- the format, read and written
-pub mod Layouts
 -- how the entries meet their promises
 pub mod Promises
 -- no second answer, and what is written is what is read

@@ -1,29 +1,21 @@
 -- An entry meets its promise where it refuses by a number that its checks give, and where it passes them and does its work.
 use mathlib.Core.Path.{_≡_, refl, sym, ap, _∙_}
-use mathlib.Core.Bool.{true, false, not}
-use mathlib.Core.List.{List, [], _∷_, _++_}
+use mathlib.Core.Bool.{not}
+use mathlib.Core.List.{List, [], _∷_}
 use Prim.Native.Nat.{ℕ, _+_, _-_, _≤_, _<_}
 use native.Mathlib.Omega.{arith}
-use borrow.Author.Tests.{eq-eqb, ne-eqb, le-leb, lt-leb, leb-false, ltb-false, eqb-true, not-false}
+use borrow.Author.Tests.{le-leb, lt-leb, leb-false, ltb-false, eqb-true, not-false}
 use lib.Dec.{eqb}
 use lib.ListN.{length, take, drop}
 use Rattle.table.specs.declared.Refusal.{Refusal}
 use Rattle.table.specs.Numbers.{numberOf}
 use Rattle.table.specs.Reply.{Reply.accepted, refused}
-use Rattle.table.specs.Checks.{Check, _when_, _below_, _notBelow_, checked, Given, Given.here, Passed, Passed.none, Passed.passes}
+use Rattle.table.specs.Checks.{_when_, _below_, _notBelow_, Given, Given.here, Passed, Passed.none, Passed.passes}
 use Rattle.table.proofs.Checks.{given-refuses, passed-accepts, accepted-passed, refused-given, accepted-says, given-before, given-after, passed-both, passed-nth, neither}
 use Rattle.sheet.specs.declared.Header.{Header}
 use Rattle.sheet.specs.declared.There.{There}
-use Rattle.sheet.specs.declared.Action.{Action}
 use Rattle.sheet.specs.Format.{sizeIn, countIn, placeOf}
-use Rattle.sheet.specs.Entries.{actionSays, headerChecks, ReadsHeader, thereChecks, HasAction, startOf, partOf, actionChecks, ReadsAction}
-
--- what tests for inequality say
-pub unequal : {x y : ℕ} → (x ≡ y → ⊥) → not (eqb x y) ≡ true
-unequal {x} {y} h = ap not (ne-eqb x y h)
-
-pub equal : {x y : ℕ} → x ≡ y → not (eqb x y) ≡ false
-equal {x} {y} h = ap not (eq-eqb x y h)
+use Rattle.sheet.specs.Entries.{headerChecks, ReadsHeader, thereChecks, HasAction, startOf, partOf}
 
 module _ {sheet : List ℕ} where
   pub header-refuses : {why : Refusal} → Given (numberOf why) (headerChecks sheet) → ReadsHeader sheet (Header.Refused why)
@@ -106,10 +98,3 @@ module _ {sheet : List ℕ} {k : ℕ} where
 
   pub start-nowhere : {t : There} {why : Refusal} → HasAction sheet k t → t ≡ There.Refused why → 0 ≡ startOf sheet k
   start-nowhere {t} {why} r e = sym (given-refuses (λ j. 0) (placeOf k) (numberOf why) (thereChecks sheet k) (there-given {why = why} (rw e at r)))
-
-module _ {part : List ℕ} where
-  pub action-refuses : {why : Refusal} → Given (numberOf why) (actionChecks part) → ReadsAction part (Action.Refused why)
-  action-refuses {why} g = record { says = sym (given-refuses refused (accepted part) (numberOf why) (actionChecks part) g) }
-
-  pub action-accepts : {a : Action} → Passed (actionChecks part) → actionSays a ≡ accepted part → ReadsAction part a
-  action-accepts {a} p e = record { says = e ∙ sym (passed-accepts refused (accepted part) (actionChecks part) p) }

@@ -1,5 +1,5 @@
--- Document 01, 'Numbers handed back', "Entries and order of checks": sheet header, whether action k is there, its part, and
--- the action reader.
+-- Document 01, 'Numbers handed back', "Entries and order of checks": sheet header, whether action k is there, and its
+-- part.
 use mathlib.Core.Path.{_≡_}
 use mathlib.Core.Bool.{Bool, not, _||_}
 use mathlib.Core.List.{List, [], _∷_, _++_}
@@ -12,10 +12,10 @@ use Rattle.table.specs.Checks.{Check, checked, _when_, _below_, _notBelow_}
 use Rattle.fabric.specs.Labels.{outsideSizes}
 use Rattle.sheet.specs.declared.Header.{Header}
 use Rattle.sheet.specs.declared.There.{There}
-use Rattle.sheet.specs.declared.Action.{Action}
-use Rattle.sheet.specs.Format.{word, sizeIn, countIn, placeOf, fieldsOf, bytesOf, layoutFault}
+use Rattle.actions.specs.Format.{word}
+use Rattle.sheet.specs.Format.{sizeIn, countIn, placeOf}
 
--- the number and values of each answer; the values of an action are the bytes of its fields
+-- the number and values of each answer
 abbrev pub headerSays : Header → Reply
 headerSays (Header.Sheet n count) = Reply.accepted (n ∷ count ∷ [])
 headerSays (Header.Refused why) = refused (numberOf why)
@@ -23,12 +23,6 @@ headerSays (Header.Refused why) = refused (numberOf why)
 abbrev pub thereSays : There → Reply
 thereSays There.Yes = Reply.accepted []
 thereSays (There.Refused why) = refused (numberOf why)
-
-abbrev pub actionSays : Action → Reply
-actionSays (Action.File x) = Reply.accepted (bytesOf (Action.File x))
-actionSays (Action.Withdraw number) = Reply.accepted (bytesOf (Action.Withdraw number))
-actionSays (Action.Route source destination) = Reply.accepted (bytesOf (Action.Route source destination))
-actionSays (Action.Refused why) = refused (numberOf why)
 
 -- 14: "sheet under 8 bytes, wrong mark or version"
 abbrev pub wrongMark : List ℕ → Bool
@@ -66,10 +60,3 @@ startOf sheet k = checked (thereChecks sheet k) (λ j. 0) (placeOf k)
 
 abbrev pub partOf : List ℕ → ℕ → List ℕ
 partOf sheet k = checked (thereChecks sheet k) (λ j. take 0 (drop 0 sheet)) (take 10 (drop (placeOf k) sheet))
-
--- "action reader (a part): 13, 2; otherwise the action with its fields."
-abbrev pub actionChecks : List ℕ → List Check
-actionChecks part = (13 when not (eqb (length part) 10)) ∷ (2 when layoutFault (fieldsOf part)) ∷ []
-
-pub record ReadsAction (part : List ℕ) (answer : Action) : Type 0 where
-  pub says : actionSays answer ≡ checked (actionChecks part) refused (Reply.accepted part)

@@ -4,24 +4,9 @@ use crate::There;
 use table::Refusal;
 ghost use mathlib.Core.Path.{_≡_};
 ghost use mathlib.Core.Bool.{false};
-ghost use Prim.Native.Nat.{_+_, _≤_, _<_};
+ghost use Prim.Native.Nat.{_+_, _≤_};
 ghost use lib.ListN.{length};
-ghost use Rattle.sheet.specs.Format.{word};
 ghost use Rattle.sheet.specs.Entries.{wrongMark, wrongLength, ReadsHeader, HasAction, startOf, partOf};
-
-// The number of 16 bits at a place.
-pub fn word_at(bytes: &[u8], at: usize) -> u16
-    requires { ⌜ at + 1 < length (now bytes) ⌝ }
-    ensures { λ r. ⌜ r ≡ word (now (bytes .entry)) at ⌝ }
-{
-    wide(bytes[at]) * 256 + wide(bytes[at + 1])
-}
-
-fn wide(x: u8) -> u16
-    ensures { λ r. ⌜ (r ≡ x) × (r < 256) ⌝ }
-{
-    x as u16
-}
 
 // 14
 fn wrong_mark(sheet: &[u8]) -> bool
@@ -39,7 +24,7 @@ fn wrong_mark(sheet: &[u8]) -> bool
     if sheet[2] != b'H' {
         return true;
     }
-    word_at(sheet, 3) != 1
+    actions::word_at(sheet, 3) != 1
 }
 
 // 15
@@ -47,7 +32,7 @@ fn wrong_length(sheet: &[u8]) -> bool
     requires { ⌜ 8 ≤ length (now sheet) ⌝ }
     ensures { λ r. ⌜ r ≡ wrongLength (now (sheet .entry)) ⌝ }
 {
-    let count = word_at(sheet, 6);
+    let count = actions::word_at(sheet, 6);
     if 4096 < count {
         return true;
     }
@@ -70,7 +55,7 @@ pub fn read_header(sheet: &[u8]) -> Header
     }
     Header::Sheet {
         n,
-        count: word_at(sheet, 6),
+        count: actions::word_at(sheet, 6),
     }
 }
 

@@ -1,11 +1,12 @@
 -- `checked` is document 01's sentence: a number is given exactly when its line holds and no earlier check failed.
-use mathlib.Core.Path.{_≡_, refl, sym, _∙_}
-use mathlib.Core.Bool.{Bool, true, false, _&&_, _||_, true≢false}
+use mathlib.Core.Path.{_≡_, refl, sym, ap, _∙_}
+use mathlib.Core.Bool.{Bool, true, false, not, _&&_, _||_, true≢false}
 use mathlib.Core.List.{List, [], _∷_, _++_}
 use mathlib.Core.Logic.{_⊎_, inl, inr, _↔_}
 use Prim.Native.Nat.{ℕ, zero, suc, _≤_, _<_}
 use native.Mathlib.Omega.{arith}
 use borrow.Author.Tests.{lt-ltb, le-ltb, le-leb, lt-leb, eq-eqb, ne-eqb, ltb-false, leb-false}
+use lib.Dec.{eqb}
 use lib.ListN.{getD}
 use Rattle.table.specs.Reply.{Reply.accepted, refused}
 use Rattle.table.specs.Checks.{Check, _when_, _below_, _notBelow_, checked, Given, Given.here, Given.later, Passed, Passed.none, Passed.passes}
@@ -115,6 +116,13 @@ not-below {made} {a} {b} e v = ltb-false a b (by-test e v)
 
 pub is-below : {made : Bool} {a b : ℕ} → made ≡ (a notBelow b) → made ≡ false → a < b
 is-below {made} {a} {b} e v = leb-false b a (by-test e v)
+
+-- what tests for inequality say
+pub unequal : {x y : ℕ} → (x ≡ y → ⊥) → not (eqb x y) ≡ true
+unequal {x} {y} h = ap not (ne-eqb x y h)
+
+pub equal : {x y : ℕ} → x ≡ y → not (eqb x y) ≡ false
+equal {x} {y} h = ap not (eq-eqb x y h)
 
 -- how an entry is shown to refuse by its checks, and to pass them: `search (LAW, refusing) depth 10`
 pub ruleset refusing = (here, later, refl, by-test, lt-ltb, le-ltb, le-leb, lt-leb, eq-eqb, ne-eqb)

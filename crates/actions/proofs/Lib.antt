@@ -1,0 +1,6 @@
+-- the format, read and written
+pub mod Layouts
+-- how the reader meets its promise
+pub mod Promises
+-- no second answer, and what is written is what is read
+pub mod Actions

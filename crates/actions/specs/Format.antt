@@ -1,0 +1,68 @@
+-- Document 01, 'The sheet and what is printed': an action's ten bytes, `actionBytes` of the notices, and what is read of them.
+use mathlib.Core.Bool.{Bool, true, false, cond, not, _||_}
+use mathlib.Core.List.{List, [], _∷_}
+use Prim.Native.Nat.{ℕ, _+_, _*_}
+use lib.Dec.{eqb}
+use lib.ListN.{getD}
+use Rattle.notices.specs.Layout.{actionBytes, filing}
+use Rattle.actions.specs.declared.Fields.{Fields}
+use Rattle.actions.specs.declared.Action.{Action}
+
+-- "Numbers are big-endian.": the number of 16 bits at a place
+abbrev pub word : List ℕ → ℕ → ℕ
+word bytes i = getD bytes i 0 * 256 + getD bytes (i + 1) 0
+
+-- "ten bytes an action: action 8 bits, number 16, kind 8, stage 8, switch 16, mask 16, set 8": the bytes of fields, and
+-- where a reader finds the fields: `fields-read` and `fields-written` say that each is the other read backward
+abbrev pub fieldBytes : Fields → List ℕ
+fieldBytes f = actionBytes (f .action) (f .number) (f .kind) (f .stage) (f .switch) (f .mask) (f .set)
+
+abbrev pub fieldsOf : List ℕ → Fields
+fieldsOf part =
+    record {
+      action = getD part 0 0;
+      number = word part 1;
+      kind = getD part 3 0;
+      stage = getD part 4 0;
+      switch = word part 5;
+      mask = word part 7;
+      set = getD part 9 0;
+    }
+
+-- the ten bytes of an action: "Action 1 files", "Action 2 withdraws; only the number is used, all else zero", "Action 3
+-- routes; switch is the source, mask the destination, all else zero"
+abbrev pub bytesOf : Action → List ℕ
+bytesOf (Action.File x) = filing x
+bytesOf (Action.Withdraw number) = actionBytes 2 number 0 0 0 0 0
+bytesOf (Action.Route source destination) = actionBytes 3 0 0 0 source destination 0
+bytesOf (Action.Refused why) = []
+
+-- "a spare field not zero"
+abbrev pub someUsed : List ℕ → Bool
+someUsed [] = false
+someUsed (x ∷ xs) = not (eqb x 0) || someUsed xs
+
+-- 2: "unknown action or kind, or a spare field not zero"; "kind 1: mask zero; kind 2: .. mask and set zero"
+abbrev pub filingFault : Fields → Bool
+filingFault f =
+    cond (eqb (f .kind) 1) (someUsed (f .mask ∷ []))
+    (cond (eqb (f .kind) 2) (someUsed (f .mask ∷ f .set ∷ []))
+    (cond (eqb (f .kind) 3) (someUsed []) true))
+
+abbrev pub withdrawingFault : Fields → Bool
+withdrawingFault f = someUsed (f .kind ∷ f .stage ∷ f .switch ∷ f .mask ∷ f .set ∷ [])
+
+abbrev pub routingFault : Fields → Bool
+routingFault f = someUsed (f .number ∷ f .kind ∷ f .stage ∷ f .set ∷ [])
+
+-- `no-fault-is-an-action` and `action-has-no-fault` say that a fault is in exactly the bytes that no action has
+abbrev pub layoutFault : Fields → Bool
+layoutFault f =
+    cond (eqb (f .action) 1) (filingFault f) (cond (eqb (f .action) 2) (withdrawingFault f) (cond (eqb (f .action) 3) (routingFault f) true))
+
+-- an action, and no refusal
+abbrev pub IsAction : Action → Type 0
+IsAction (Action.File x) = Unit
+IsAction (Action.Withdraw number) = Unit
+IsAction (Action.Route source destination) = Unit
+IsAction (Action.Refused why) = ⊥
