@@ -11,8 +11,8 @@ use lib.Dec.{leb}
 use lib.ListN.{length}
 use Rattle.fabric.specs.Labels.{bit}
 use Rattle.fabric.specs.Walks.{walked}
-use Rattle.tags.specs.Scheme.{stateFor}
-use Rattle.tags.specs.Tags.{statesOf}
+use Rattle.scheme.specs.Scheme.{stateFor}
+use Rattle.scheme.specs.Tags.{statesOf}
 use Rattle.paths.specs.declared.Place.{Place}
 use Rattle.paths.specs.Clear.{Rule}
 use Rattle.paths.specs.Frontier.{nowhere, through, lesser}

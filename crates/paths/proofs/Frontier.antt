@@ -11,9 +11,9 @@ use lib.Dec.{leb}
 use lib.ListN.{take}
 use Rattle.fabric.specs.Labels.{size, bit}
 use Rattle.fabric.proofs.Bits.{bit-lt}
-use Rattle.tags.specs.Scheme.{stateFor}
-use Rattle.tags.specs.Tags.{statesOf, normalTag}
-use Rattle.tags.proofs.Table.{stateFor-plus, stateFor-minus}
+use Rattle.scheme.specs.Scheme.{stateFor}
+use Rattle.scheme.specs.Tags.{statesOf, normalTag}
+use Rattle.scheme.proofs.Table.{stateFor-plus, stateFor-minus}
 use Rattle.table.proofs.Checks.{neither}
 use Rattle.paths.specs.declared.Place.{Place}
 use Rattle.paths.specs.declared.Front.{Front}

@@ -10,10 +10,10 @@ use lib.Pow.{pow-add}
 use Rattle.fabric.specs.Labels.{bit}
 use Rattle.fabric.specs.Links.{lands}
 use Rattle.fabric.specs.Walks.{walked}
-use Rattle.tags.specs.Scheme.{stateFor}
-use Rattle.tags.specs.Tags.{statesOf}
-use Rattle.tags.proofs.Table.{stateFor-lt}
-use Rattle.tags.proofs.States.{states-on}
+use Rattle.scheme.specs.Scheme.{stateFor}
+use Rattle.scheme.specs.Tags.{statesOf}
+use Rattle.scheme.proofs.Table.{stateFor-lt}
+use Rattle.scheme.proofs.States.{states-on}
 
 unfoldable pub keyOf : ℕ → ℕ → ℕ → List ℕ → ℕ
 keyOf n i j [] = 0

@@ -10,9 +10,9 @@ use lib.Seq.{length-take-le, drop-cons}
 use Rattle.fabric.specs.Labels.{bit}
 use Rattle.fabric.specs.Links.{lands}
 use Rattle.fabric.specs.Walks.{Path, walked, switchAt}
-use Rattle.tags.specs.Scheme.{link, stateFor}
-use Rattle.tags.proofs.Table.{stateFor-lt}
-use Rattle.tags.proofs.NormalTags.{path-follows}
+use Rattle.scheme.specs.Scheme.{link, stateFor}
+use Rattle.scheme.proofs.Table.{stateFor-lt}
+use Rattle.scheme.proofs.NormalTags.{path-follows}
 use Rattle.paths.specs.Clear.{Rule, ComesBefore, First}
 use Rattle.paths.proofs.Keys.{keyOf, key-on, key-lt}
 

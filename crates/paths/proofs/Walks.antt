@@ -11,7 +11,7 @@ use Rattle.fabric.specs.Links.{Code, lands}
 use Rattle.fabric.specs.Walks.{Codes, walked, switchAt}
 use Rattle.fabric.proofs.Bits.{agree-below, agree-less}
 use Rattle.fabric.proofs.Stages.{walked-lt, walked-on, switch-next, on-the-way}
-use Rattle.tags.proofs.NormalTags.{code-at}
+use Rattle.scheme.proofs.NormalTags.{code-at}
 use Rattle.paths.specs.Clear.{Rule, ClearPath, Onward, StageNamed}
 
 codes-take : (k : ℕ) (cs : List ℕ) → Codes cs → Codes (take k cs)

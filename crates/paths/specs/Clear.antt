@@ -6,7 +6,7 @@ use Prim.Native.Nat.{ℕ, suc, _≤_, _<_}
 use lib.ListN.{length, take, getD}
 use Rattle.fabric.specs.Labels.{bit, Agree}
 use Rattle.fabric.specs.Walks.{Codes, Path, walked, switchAt}
-use Rattle.tags.specs.Scheme.{stateFor}
+use Rattle.scheme.specs.Scheme.{stateFor}
 
 -- for a stage, a switch and a code: 0 where the link is clear, and another number where it is stopped
 abbrev pub Rule : Type 0

@@ -67,7 +67,7 @@ fn by_link(p: Place, stop: u16, state: u8, i: u8) -> Place
     Place {
         reached: true,
         key: p.key * 2 + state as u32,
-        states: p.states + tags::state_bit(state, i),
+        states: p.states + scheme::state_bit(state, i),
     }
 }
 

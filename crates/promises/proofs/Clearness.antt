@@ -8,7 +8,7 @@ use Rattle.book.specs.declared.Book.{Book}
 use Rattle.book.specs.Standing.{standing, Stopped, Sound}
 use Rattle.book.proofs.Stoppers.{stopper-none}
 use Rattle.paths.specs.Clear.{Clear}
-use Rattle.router.specs.Entries.{stopsOf}
+use Rattle.walks.specs.Entries.{stopsOf}
 
 module _ (b : Book) (sound : Sound b) (s : ℕ) (cs : List ℕ) where
   abbrev Unstopped : Type 0

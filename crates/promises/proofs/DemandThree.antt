@@ -14,10 +14,12 @@ use Rattle.book.specs.Entries.{opened, Files, Withdraws, Tests, Lists}
 use Rattle.book.specs.Runs.{Change, run, StandsSince, Distinct}
 use Rattle.book.proofs.Since.{same-book}
 use Rattle.book.proofs.Once.{files-once, withdraws-once, tests-once, lists-once}
-use Rattle.router.specs.declared.Ended.{Ended}
+use Rattle.walks.specs.declared.Ended.{Ended}
 use Rattle.router.specs.declared.Found.{Found}
-use Rattle.router.specs.Entries.{Walks, Routes}
-use Rattle.router.proofs.Entries.{walk-once, route-once}
+use Rattle.walks.specs.Entries.{Walks}
+use Rattle.router.specs.Entries.{Routes}
+use Rattle.walks.proofs.Entries.{walk-once}
+use Rattle.router.proofs.Entries.{route-once}
 
 module _ (n : ℕ) (changes : List Change) (l : List Notice) (apart : Distinct l)
     (these : (x : Notice) → List·Memᴰ x l ↔ StandsSince (opened n) changes x) where

@@ -12,7 +12,7 @@ use Rattle.table.proofs.Checks.{passed-nth, neither}
 use Rattle.fabric.specs.Labels.{size}
 use Rattle.fabric.specs.Walks.{walked}
 use Rattle.tags.specs.declared.Tag.{Tag}
-use Rattle.tags.specs.Tags.{steered, stepsOf, statesOf, normalTag}
+use Rattle.scheme.specs.Tags.{steered, stepsOf, statesOf, normalTag}
 use Rattle.tags.specs.Entries.{normalFormChecks}
 use Rattle.tags.proofs.Promises.{form-accepts}
 use Rattle.paths.specs.Frontier.{high, through, lesser, advanced}
@@ -22,7 +22,8 @@ use Rattle.book.specs.Entries.{opened, linkChecks}
 use Rattle.book.specs.Runs.{run}
 use Rattle.book.proofs.Answers.{link-stopped}
 use Rattle.router.specs.declared.Found.{Found}
-use Rattle.router.specs.Entries.{stopsOf, routeChecks, Routed}
+use Rattle.walks.specs.Entries.{stopsOf}
+use Rattle.router.specs.Entries.{routeChecks, Routed}
 use Rattle.router.proofs.Promises.{route-passes}
 use Rattle.promises.specs.Examples.{Example, Claim, examples, AllHold}
 use Rattle.promises.proofs.Found.{answerFrom, routeOf, route-of}

@@ -15,7 +15,7 @@ use Rattle.table.specs.Checks.{Passed, _below_}
 use Rattle.table.proofs.Checks.{given-or-passed, passed-accepts, passed-nth, accepted-passed, neither}
 use Rattle.fabric.specs.Labels.{outsideSizes}
 use Rattle.fabric.specs.Walks.{walked}
-use Rattle.tags.specs.Tags.{steered}
+use Rattle.scheme.specs.Tags.{steered}
 use Rattle.notices.specs.declared.Notice.{Notice}
 use Rattle.book.specs.declared.Book.{Book}
 use Rattle.book.specs.declared.Kept.{Kept}
@@ -32,7 +32,8 @@ use Rattle.book.proofs.Filings.{filed-if}
 use Rattle.book.proofs.Stoppers.{stopper-none}
 use Rattle.book.proofs.Once.{answer-tells}
 use Rattle.router.specs.declared.Found.{Found}
-use Rattle.router.specs.Entries.{stopsOf, routeChecks, Routed, Routes}
+use Rattle.walks.specs.Entries.{stopsOf}
+use Rattle.router.specs.Entries.{routeChecks, Routed, Routes}
 use Rattle.router.proofs.Entries.{route-once}
 use Rattle.promises.specs.Examples.{links}
 use Rattle.promises.specs.Controllers.{Controller, Keeps, SaysElevenAlways, GivesTagZeroAlways, InventsAStage, RefusesEveryFiling, FilesNothing, StoresTheFirstOnly, OpensForBoth, PlusAndMinusOneLink, LooksOnlyWhereItStands, GivesUp}

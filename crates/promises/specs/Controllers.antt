@@ -8,7 +8,7 @@ use lib.ListN.{length, getD}
 use Rattle.table.specs.declared.Refusal.{Refusal}
 use Rattle.table.specs.Checks.{Passed}
 use Rattle.fabric.specs.Walks.{switchAt}
-use Rattle.tags.specs.Tags.{stepsOf}
+use Rattle.scheme.specs.Tags.{stepsOf}
 use Rattle.paths.specs.Clear.{ClearPath, StageNamed}
 use Rattle.notices.specs.declared.Notice.{Notice}
 use Rattle.book.specs.declared.Book.{Book}
@@ -19,7 +19,8 @@ use Rattle.notices.specs.Targets.{names}
 use Rattle.book.specs.Standing.{standing}
 use Rattle.book.specs.Entries.{Files, Withdraws, Tests}
 use Rattle.router.specs.declared.Found.{Found}
-use Rattle.router.specs.Entries.{stopsOf, routeChecks, Routes}
+use Rattle.walks.specs.Entries.{stopsOf}
+use Rattle.router.specs.Entries.{routeChecks, Routes}
 
 -- what a controller answers
 pub record Controller : Type 0 where

@@ -4,7 +4,7 @@ use mathlib.Core.List.{List, [], _∷_}
 use Prim.Native.Nat.{ℕ}
 use lib.ListN.{replicate}
 use Rattle.tags.specs.declared.Tag.{Tag}
-use Rattle.tags.specs.Tags.{stepsOf}
+use Rattle.scheme.specs.Tags.{stepsOf}
 use Rattle.tags.specs.Entries.{NormalForm}
 use Rattle.notices.specs.declared.Target.the-variants.{Links}
 use Rattle.book.specs.declared.Link.{Link}

@@ -1,45 +1,34 @@
--- Theorems over walk and route: what their answers say, together and apart, and that no promise leaves a second answer.
+-- Theorems over route: what its answers say, and that its promise leaves no second answer.
 use mathlib.Core.Path.{_≡_, refl, sym, ap, ap₂, subst, _∙_}
 use mathlib.Core.Bool.{Bool, false, _||_}
 use mathlib.Core.List.{List, [], _∷_}
 use mathlib.Core.Logic.{⊎-elim}
 use Prim.Native.Nat.{ℕ, suc, _<_}
-use native.Mathlib.Decide.{decLt}
 use native.Mathlib.Omega.{arith}
 use borrow.Author.Tests.{leb-false, lt-leb}
 use lib.ListN.{getD}
 use Rattle.table.specs.Numbers.{numberOf}
 use Rattle.table.specs.Reply.{refused}
 use Rattle.table.specs.Checks.{Given, Passed, Passed.none, Passed.passes, _when_, _notBelow_}
-use Rattle.table.proofs.Numbers.{number-tells, below-seventeen}
+use Rattle.table.proofs.Numbers.{number-tells}
 use Rattle.table.proofs.Checks.{given-or-passed, passed-nth, neither}
 use Rattle.fabric.specs.Labels.{size}
 use Rattle.fabric.specs.Walks.{switchAt}
-use Rattle.tags.specs.Tags.{tags, stepsOf, normalTag}
-use Rattle.tags.proofs.NormalTags.{steps-come-back, normal-is-tag}
-use Rattle.tags.proofs.Steps.{steps-of-tag, tag-arrives}
+use Rattle.scheme.specs.Tags.{tags, stepsOf, normalTag}
+use Rattle.scheme.proofs.NormalTags.{steps-come-back, normal-is-tag}
+use Rattle.scheme.proofs.Steps.{tag-arrives}
 use Rattle.book.specs.declared.Book.{Book}
 use Rattle.book.specs.Standing.{unsound}
 use Rattle.paths.specs.Clear.{Rule, Clear, ClearPath, Onward}
 use Rattle.paths.proofs.Order.{first-once}
 use Rattle.paths.proofs.Walks.{stage-once}
-use Rattle.router.specs.declared.Ended.{Ended}
+use Rattle.walks.proofs.Entries.{walked-once}
+use Rattle.walks.specs.declared.Ended.{Ended}
 use Rattle.router.specs.declared.Found.{Found}
-use Rattle.router.specs.Entries.{stopsOf, walkSays, routeSays, walkChecks, FirstStopped, Walked, Walks, routeChecks, Routed, Routes}
+use Rattle.walks.specs.Entries.{stopsOf, walkChecks, Walked, Walks}
+use Rattle.router.specs.Entries.{routeSays, routeChecks, Routed, Routes}
 
 -- answers that say one number alone are one answer
-pub ended-tells : (a b : Ended) (k : ℕ) → walkSays a ≡ refused k → walkSays b ≡ refused k → a ≡ b
-ended-tells Ended.Clear b k e f = let z : _≡_ {A = ℕ} 0 1 = cc in absurd (omega arith)
-ended-tells (Ended.Stopped i) b k e f = let z : _≡_ {A = ℕ} 0 1 = cc in absurd (omega arith)
-ended-tells Ended.Astray Ended.Clear k e f = let z : _≡_ {A = ℕ} 0 1 = cc in absurd (omega arith)
-ended-tells Ended.Astray (Ended.Stopped j) k e f = let z : _≡_ {A = ℕ} 0 1 = cc in absurd (omega arith)
-ended-tells Ended.Astray Ended.Astray k e f = refl
-ended-tells Ended.Astray (Ended.Refused r) k e f = let z : 17 ≡ numberOf r = cc in (let l = below-seventeen r in absurd (omega arith))
-ended-tells (Ended.Refused q) Ended.Clear k e f = let z : _≡_ {A = ℕ} 0 1 = cc in absurd (omega arith)
-ended-tells (Ended.Refused q) (Ended.Stopped j) k e f = let z : _≡_ {A = ℕ} 0 1 = cc in absurd (omega arith)
-ended-tells (Ended.Refused q) Ended.Astray k e f = let z : 17 ≡ numberOf q = cc in (let l = below-seventeen q in absurd (omega arith))
-ended-tells (Ended.Refused q) (Ended.Refused r) k e f = let z : numberOf q ≡ numberOf r = cc in ap Ended.Refused (number-tells q r z)
-
 pub found-tells : (a b : Found) (k : ℕ) → routeSays a ≡ refused k → routeSays b ≡ refused k → a ≡ b
 found-tells (Found.Tag t) b k e f = let z : _≡_ {A = ℕ} 0 1 = cc in absurd (omega arith)
 found-tells (Found.None i) b k e f = let z : _≡_ {A = ℕ} 0 1 = cc in absurd (omega arith)
@@ -47,34 +36,8 @@ found-tells (Found.Refused q) (Found.Tag t) k e f = let z : _≡_ {A = ℕ} 0 1 
 found-tells (Found.Refused q) (Found.None j) k e f = let z : _≡_ {A = ℕ} 0 1 = cc in absurd (omega arith)
 found-tells (Found.Refused q) (Found.Refused r) k e f = let z : numberOf q ≡ numberOf r = cc in ap Found.Refused (number-tells q r z)
 
--- over one rule, a walk has one answer, and a route has one
+-- over one rule, a route has one answer
 module _ (n : ℕ) (stops : Rule) where
-  stopped-once : (s : ℕ) (cs : List ℕ) (i j : ℕ) → FirstStopped n stops s cs i → FirstStopped n stops s cs j → i ≡ j
-  stopped-once s cs i j p q = go (decLt i j) (decLt j i)
-    where
-      go : Dec (i < j) → Dec (j < i) → i ≡ j
-      go (yes h) d = absurd (p .stopped (q .before i h))
-      go (no h) (yes g) = absurd (q .stopped (p .before j g))
-      go (no h) (no g) = omega arith
-
-  not-both : (s tag i : ℕ) → FirstStopped n stops s (stepsOf n s tag) i → Clear n stops s (stepsOf n s tag) → ⊥
-  not-both s tag i p clear = let l = steps-of-tag n s tag .stages in let h = p .stage in p .stopped (clear i (omega arith))
-
-  pub walked-once : (s tag : ℕ) (a b : Ended) → Walked n stops s tag a → Walked n stops s tag b → a ≡ b
-  walked-once s tag (Ended.Stopped i) (Ended.Stopped j) p q = ap Ended.Stopped (stopped-once s (stepsOf n s tag) i j p q)
-  walked-once s tag (Ended.Stopped i) Ended.Clear p q = absurd (not-both s tag i p (q .0))
-  walked-once s tag (Ended.Stopped i) Ended.Astray p q = absurd (not-both s tag i p (q .0))
-  walked-once s tag (Ended.Stopped i) (Ended.Refused r) p q = absurd q
-  walked-once s tag Ended.Clear (Ended.Stopped j) p q = absurd (not-both s tag j q (p .0))
-  walked-once s tag Ended.Clear Ended.Clear p q = refl
-  walked-once s tag Ended.Clear Ended.Astray p q = absurd (q .1 (p .1))
-  walked-once s tag Ended.Clear (Ended.Refused r) p q = absurd q
-  walked-once s tag Ended.Astray (Ended.Stopped j) p q = absurd (not-both s tag j q (p .0))
-  walked-once s tag Ended.Astray Ended.Clear p q = absurd (p .1 (q .1))
-  walked-once s tag Ended.Astray Ended.Astray p q = refl
-  walked-once s tag Ended.Astray (Ended.Refused r) p q = absurd q
-  walked-once s tag (Ended.Refused r) b p q = absurd p
-
   pub routed-once : (s d : ℕ) (a b : Found) → Routed n stops s d a → Routed n stops s d b → a ≡ b
   routed-once s d (Found.Tag t) (Found.Tag u) p q =
       ap Found.Tag (p .2 ∙ ap (normalTag n s) (first-once n stops s d (p .0) (q .0) (p .1) (q .1)) ∙ sym (q .2))
@@ -86,13 +49,6 @@ module _ (n : ℕ) (stops : Rule) where
   routed-once s d (Found.Refused r) b p q = absurd p
 
 -- no second answer
-pub walk-once : (b : Book) (s tag : ℕ) (x y : Ended) → Walks b s tag x → Walks b s tag y → x ≡ y
-walk-once b s tag x y p q =
-    ⊎-elim
-    (λ g. ended-tells x y (g .0) (p .refuses (g .0) (g .1)) (q .refuses (g .0) (g .1)))
-    (λ w. walked-once (b .n) (stopsOf b) s tag x y (p .walks w) (q .walks w))
-    (given-or-passed (walkChecks b s tag))
-
 pub route-once : (b : Book) (s d : ℕ) (x y : Found) → Routes b s d x → Routes b s d y → x ≡ y
 route-once b s d x y p q =
     ⊎-elim

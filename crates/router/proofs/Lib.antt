@@ -1,6 +1,5 @@
 pub mod Marking
 pub mod Promises
-pub mod Walking
 pub mod Routing
 pub mod Filing
 pub mod Besides

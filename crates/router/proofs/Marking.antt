@@ -12,7 +12,7 @@ use lib.Dec.{eqb}
 use lib.Bits.{bitAnd}
 use lib.ListN.{length, take, drop, getD, set, replicate, getD-replicate}
 use lib.Seq.{getD-set-same, getD-set-other}
-use Rattle.fabric.specs.Labels.{size, bit}
+use Rattle.fabric.specs.Labels.{size}
 use Rattle.fabric.specs.Links.{lands}
 use Rattle.notices.specs.declared.Notice.{Notice}
 use Rattle.notices.specs.declared.Target.{Target}

@@ -14,21 +14,10 @@ use Rattle.fabric.specs.Labels.{size, outsideSizes}
 use Rattle.book.specs.declared.Book.{Book}
 use Rattle.book.specs.Standing.{standing, unused, unsound, misfiled, littered}
 use Rattle.book.proofs.Arrays.{none-left}
-use Rattle.router.specs.declared.Ended.{Ended}
 use Rattle.router.specs.declared.Found.{Found}
 use Rattle.router.proofs.Filing.{last-true}
-use Rattle.router.specs.Entries.{stopsOf, walkChecks, Walked, Walks, routeChecks, Routed, Routes}
-
-module _ (b : Book) (s tag : ℕ) where
-  pub walk-refuses : (r : Refusal) → Given (numberOf r) (walkChecks b s tag) → Walks b s tag (Ended.Refused r)
-  walk-refuses r g =
-      record {
-        refuses = λ k h. ap refused (given-once (numberOf r) k (walkChecks b s tag) g h);
-        walks = λ p. not-given-and-passed (numberOf r) (walkChecks b s tag) g p;
-      }
-
-  pub walk-passes : (a : Ended) → Passed (walkChecks b s tag) → Walked (b .n) (stopsOf b) s tag a → Walks b s tag a
-  walk-passes a p w = record { refuses = λ k g. absurd (not-given-and-passed k (walkChecks b s tag) g p); walks = λ q. w }
+use Rattle.walks.specs.Entries.{stopsOf}
+use Rattle.router.specs.Entries.{routeChecks, Routed, Routes}
 
 module _ (b : Book) (s d : ℕ) where
   pub route-refuses : (r : Refusal) → Given (numberOf r) (routeChecks b s d) → Routes b s d (Found.Refused r)

@@ -15,7 +15,8 @@ ghost use Prim.Native.Nat.{_≤_, _<_};
 ghost use Rattle.fabric.specs.Labels.{size};
 ghost use Rattle.book.specs.Standing.{standing, misfiled, unsound};
 ghost use Rattle.paths.specs.Clear.{Rule};
-ghost use Rattle.router.specs.Entries.{stopsOf, Routed, Routes};
+ghost use Rattle.walks.specs.Entries.{stopsOf};
+ghost use Rattle.router.specs.Entries.{Routed, Routes};
 ghost use Rattle.router.specs.Marks.{Marked};
 
 // "route: 16, 10, 11." The one pass over the notices that finds the route also finds whether one of them is misfiled, so of 16
@@ -114,5 +115,5 @@ fn cross(n: u8, source: u16, destination: u16, marks: [Stops; 13]) -> Found
     let high = front.high;
     let low = front.low;
     let first = paths::first_of(high, low);
-    Found::Tag(tags::joined(n, destination, first.states))
+    Found::Tag(scheme::joined(n, destination, first.states))
 }

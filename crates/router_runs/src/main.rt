@@ -3,18 +3,18 @@
 use book::Book;
 use notices::Notice;
 use notices::Target;
-use router::Ended;
 use router::Found;
 use show::number;
 use show::refused;
 use show::word;
+use walks::Ended;
 
 fn main() {
     one_to_six();
     eight_to_twelve();
     bad_input();
     damaged();
-    walks();
+    tags_walked();
 }
 
 // A notice for links of one switch.
@@ -91,7 +91,7 @@ fn damaged() {
 }
 
 // The first stopped link of a tag's path, and a path that is clear.
-fn walks() {
+fn tags_walked() {
     let book = with(empty(3), links(1, 1, 2, 4));
     walk(book, 1, 0);
     walk(book, 1, 8);
@@ -122,7 +122,7 @@ fn walk(book: Book, source: u16, tag: u32) {
     word(b"WALK");
     number(source as u64);
     number(tag as u64);
-    match router::walk(book, source, tag) {
+    match walks::walk(book, source, tag) {
         Ended::Clear => word(b" CLEAR"),
         Ended::Stopped(stage) => {
             word(b" STOPPED");

@@ -16,10 +16,10 @@ use Rattle.fabric.specs.Labels.{size}
 use Rattle.fabric.specs.Walks.{Codes, Steps}
 use Rattle.tags.specs.declared.Written.{Written}
 use Rattle.tags.specs.declared.Tag.{Tag}
-use Rattle.tags.specs.Tags.{tags, destination, state, stepsOf, normalTag}
+use Rattle.scheme.specs.Tags.{tags, destination, state, stepsOf, normalTag}
 use Rattle.tags.specs.Entries.{writtenSays, tagSays, someAboveTwo, tagToStepsChecks, TagToSteps, stepsToTagChecks, StepsToTag, normalFormChecks, NormalForm}
-use Rattle.tags.proofs.Steps.{steps-of-tag}
-use Rattle.tags.proofs.NormalTags.{normal-is-tag, steps-come-back, normal-keeps-destination, straight-cleared, turns-kept}
+use Rattle.scheme.proofs.Steps.{steps-of-tag}
+use Rattle.scheme.proofs.NormalTags.{normal-is-tag, steps-come-back, normal-keeps-destination, straight-cleared, turns-kept}
 
 -- an answer is known by what it says
 pub written-tells : (a b : Written) → writtenSays a ≡ writtenSays b → a ≡ b

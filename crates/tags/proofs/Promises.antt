@@ -10,7 +10,7 @@ use Rattle.table.specs.Checks.{Given, Passed}
 use Rattle.table.proofs.Checks.{given-refuses, passed-accepts}
 use Rattle.tags.specs.declared.Written.{Written}
 use Rattle.tags.specs.declared.Tag.{Tag}
-use Rattle.tags.specs.Tags.{stepsOf, normalTag}
+use Rattle.scheme.specs.Tags.{stepsOf, normalTag}
 use Rattle.tags.specs.Entries.{tagToStepsChecks, TagToSteps, stepsToTagChecks, StepsToTag, normalFormChecks, NormalForm}
 
 pub to-steps-refuses : {n s tag : ℕ} {m : List ℕ} {r : Refusal}

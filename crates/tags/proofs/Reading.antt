@@ -1,20 +1,18 @@
 -- What the loop of steps to tag collects from the bytes that it reads.
 use mathlib.Core.Path.{_≡_, sym, ap, ap₂, subst, _∙_}
 use mathlib.Core.List.{List}
-use Prim.Native.Nat.{ℕ, _+_, _*_, _^_, _%_, _≤_, _<_}
-use native.Mathlib.Nat.{mod-le}
+use Prim.Native.Nat.{ℕ, _+_, _*_, _^_, _≤_, _<_}
 use native.Mathlib.Numerals.{add-one}
 use native.Mathlib.Omega.{arith}
 use lib.ListN.{length, take, getD}
 use lib.Seq.{length-take-le, getD-take, take-all}
-use lib.Pow.{shl-lt, pow-mono}
 use Rattle.fabric.specs.Labels.{size, bit}
 use Rattle.fabric.specs.Links.{lands}
 use Rattle.fabric.specs.Walks.{walked, switchAt}
 use Rattle.fabric.proofs.Stages.{switch-next}
-use Rattle.tags.specs.Scheme.{stateFor}
-use Rattle.tags.specs.Tags.{statesOf, normalTag}
-use Rattle.tags.proofs.States.{states-lt, states-next, states-small}
+use Rattle.scheme.specs.Scheme.{stateFor}
+use Rattle.scheme.specs.Tags.{statesOf, normalTag}
+use Rattle.scheme.proofs.States.{states-lt, states-next, states-small}
 
 module _ (n s : ℕ) (bytes : List ℕ) (i j states : ℕ) (bound : n ≤ length bytes) where
   -- one stage on: the switch, the states, and that the states stay small
@@ -42,11 +40,3 @@ module _ (n s : ℕ) (bytes : List ℕ) (i j states : ℕ) (bound : n ≤ length
         rw states-all (subst (λ (m : ℕ). statesOf n 0 s cs < 2 ^ m) l (states-lt n 0 s cs)),
         ap₂ (λ (x y : ℕ). x + size n * y) (at ∙ ap (walked n 0 s) all) states-all,
       )
-
-pub joined-fits : (n destination states : ℕ) → n ≤ 12 → destination < size n → states < size n → destination + states * 2 ^ n % 2 ^ 32 < 2 ^ 32
-joined-fits n destination states h hd hs =
-    let p : 2 ^ (n + n) ≤ 2 ^ 24 = pow-mono {i = n + n} {j = 24} (omega arith) in
-    let q : 2 ^ n ≤ 2 ^ 12 = pow-mono {j = 12} h in
-    let l : states * 2 ^ n < 2 ^ (n + n) = shl-lt n n hs in
-    let m = mod-le (states * 2 ^ n) (2 ^ 32) in
-    omega arith

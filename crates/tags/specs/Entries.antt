@@ -9,7 +9,7 @@ use Rattle.table.specs.Numbers.{numberOf}
 use Rattle.table.specs.Reply.{Reply, refused}
 use Rattle.table.specs.Checks.{Check, checked, _when_, _below_, _notBelow_}
 use Rattle.fabric.specs.Labels.{size, outsideSizes}
-use Rattle.tags.specs.Tags.{tags, stepsOf, normalTag}
+use Rattle.scheme.specs.Tags.{tags, stepsOf, normalTag}
 use Rattle.tags.specs.declared.Written.{Written}
 use Rattle.tags.specs.declared.Tag.{Tag}
 

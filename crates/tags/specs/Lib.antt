@@ -1,3 +1,1 @@
-pub mod Scheme
-pub mod Tags
 pub mod Entries

@@ -1,13 +1,13 @@
 // Document 01, 'normal form of a tag'.
 use crate::Tag;
-use crate::scheme::outside_tags;
 use crate::to_steps::write_steps;
 use crate::to_tag::read_steps;
+use scheme::outside_tags;
 use table::Refusal;
 ghost use mathlib.Core.Path.{_≡_};
 ghost use Prim.Native.Nat.{_≤_, _<_};
 ghost use Rattle.fabric.specs.Labels.{size};
-ghost use Rattle.tags.specs.Tags.{stepsOf, normalTag};
+ghost use Rattle.scheme.specs.Tags.{stepsOf, normalTag};
 ghost use Rattle.tags.specs.Entries.{NormalForm};
 
 // The normal tag of a tag's steps.

@@ -1,14 +1,14 @@
 // Document 01, 'tag to steps'.
 use crate::Written;
-use crate::scheme::outside_tags;
-use crate::scheme::step_of;
+use scheme::outside_tags;
+use scheme::step_of;
 use table::Refusal;
 ghost use mathlib.Core.Path.{_≡_};
 ghost use mathlib.Core.List.{_++_};
 ghost use Prim.Native.Nat.{_≤_, _<_};
 ghost use lib.ListN.{length, drop};
 ghost use Rattle.fabric.specs.Labels.{size};
-ghost use Rattle.tags.specs.Tags.{stepsOf};
+ghost use Rattle.scheme.specs.Tags.{stepsOf};
 ghost use Rattle.tags.specs.Entries.{TagToSteps};
 
 // The steps of a tag at the front of the memory; the rest stays.

@@ -1,29 +1,15 @@
 // Document 01, 'steps to tag'.
 use crate::Tag;
-use crate::scheme::state_for;
+use scheme::joined;
+use scheme::state_bit;
+use scheme::state_for;
 use table::Refusal;
 ghost use mathlib.Core.Path.{_≡_};
-ghost use Prim.Native.Nat.{_+_, _*_, _^_, _≤_, _<_};
+ghost use Prim.Native.Nat.{_≤_, _<_};
 ghost use lib.ListN.{length, take};
 ghost use Rattle.fabric.specs.Labels.{size};
-ghost use Rattle.tags.specs.Tags.{normalTag};
+ghost use Rattle.scheme.specs.Tags.{normalTag};
 ghost use Rattle.tags.specs.Entries.{someAboveTwo, StepsToTag};
-
-// A state as bit i of a number.
-pub fn state_bit(state: u8, i: u8) -> u32
-    requires { ⌜ (state < 2) × (i < 12) ⌝ }
-    ensures { λ r. ⌜ r ≡ state * 2 ^ i ⌝ }
-{
-    (state as u32) << i
-}
-
-// The tag of a destination and a number that holds the states.
-pub fn joined(n: u8, destination: u16, states: u32) -> u32
-    requires { ⌜ (n ≤ 12) × (destination < size n) × (states < size n) ⌝ }
-    ensures { λ r. ⌜ r ≡ destination + size n * states ⌝ }
-{
-    destination as u32 + (states << n)
-}
 
 // Whether one of the first n bytes is a code above 2.
 fn some_above_two(n: u8, memory: &[u8]) -> bool

@@ -13,7 +13,7 @@ use Rattle.book.specs.Standing.{filler, misfiled, stopper}
 use Rattle.book.proofs.Arrays.{length-mapped, none-left-of}
 use Rattle.paths.specs.Frontier.{high}
 use Rattle.paths.proofs.Pivots.{high-lt}
-use Rattle.router.specs.Entries.{stopsOf}
+use Rattle.walks.specs.Entries.{stopsOf}
 use Rattle.router.specs.Marks.{Highs, Marked, tellsOf, unmarked, marksAt}
 use Rattle.router.proofs.Filing.{fit-column, unfit-there, misfiled-after, misfiled-there, filed-one}
 use Rattle.router.proofs.Marking.{marked-none, marked-more, marked-same, from-before}

@@ -5,8 +5,8 @@ use Prim.Native.Nat.{ℕ}
 use borrow.Author.Needs.{needs}
 use lib.ListN.{take}
 use lib.Seq.{take-at}
-use Rattle.tags.specs.Tags.{stepsOf, normalTag}
-use Rattle.tags.proofs.Steps.{steps-of-tag}
+use Rattle.scheme.specs.Tags.{stepsOf, normalTag}
+use Rattle.scheme.proofs.Steps.{steps-of-tag}
 use Rattle.tags.proofs.normal.normal_of.Statement.{statement}
 use Rattle.tags.proofs.normal.normal_of.Tie as tie
 

@@ -8,8 +8,8 @@ use lib.ListN.{length, take, drop, length-set}
 use lib.Seq.{take-all}
 use Rattle.fabric.specs.Labels.{size}
 use Rattle.fabric.specs.Walks.{switchAt, walked}
-use Rattle.tags.specs.Tags.{stepsOf}
-use Rattle.tags.proofs.Steps.{steps-of-tag, step-on}
+use Rattle.scheme.specs.Tags.{stepsOf}
+use Rattle.scheme.proofs.Steps.{steps-of-tag, step-on}
 use Rattle.tags.proofs.Lent.{front-more}
 use Rattle.tags.proofs.to_steps.write_steps.Statement.{statement}
 use Rattle.tags.proofs.to_steps.write_steps.Tie as tie

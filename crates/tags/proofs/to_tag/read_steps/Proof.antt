@@ -8,7 +8,7 @@ use lib.Pow.{pow-mono}
 use Rattle.fabric.specs.Labels.{size}
 use Rattle.fabric.specs.Walks.{switchAt, walked}
 use Rattle.tags.proofs.Reading.{collects, collected}
-use Rattle.tags.specs.Tags.{statesOf}
+use Rattle.scheme.specs.Tags.{statesOf}
 use Rattle.tags.proofs.to_tag.read_steps.Statement.{statement}
 use Rattle.tags.proofs.to_tag.read_steps.Tie as tie
 

@@ -1,0 +1,66 @@
+-- Theorems over walk: what its answers say, and that its promise leaves no second answer.
+use mathlib.Core.Path.{_≡_, refl, ap}
+use mathlib.Core.List.{List}
+use mathlib.Core.Logic.{⊎-elim}
+use Prim.Native.Nat.{ℕ, _<_}
+use native.Mathlib.Decide.{decLt}
+use native.Mathlib.Omega.{arith}
+use Rattle.table.specs.Numbers.{numberOf}
+use Rattle.table.specs.Reply.{refused}
+use Rattle.table.proofs.Numbers.{number-tells, below-seventeen}
+use Rattle.table.proofs.Checks.{given-or-passed}
+use Rattle.scheme.specs.Tags.{stepsOf}
+use Rattle.scheme.proofs.Steps.{steps-of-tag}
+use Rattle.book.specs.declared.Book.{Book}
+use Rattle.paths.specs.Clear.{Rule, Clear}
+use Rattle.walks.specs.declared.Ended.{Ended}
+use Rattle.walks.specs.Entries.{stopsOf, walkSays, walkChecks, FirstStopped, Walked, Walks}
+
+-- answers that say one number alone are one answer
+pub ended-tells : (a b : Ended) (k : ℕ) → walkSays a ≡ refused k → walkSays b ≡ refused k → a ≡ b
+ended-tells Ended.Clear b k e f = let z : _≡_ {A = ℕ} 0 1 = cc in absurd (omega arith)
+ended-tells (Ended.Stopped i) b k e f = let z : _≡_ {A = ℕ} 0 1 = cc in absurd (omega arith)
+ended-tells Ended.Astray Ended.Clear k e f = let z : _≡_ {A = ℕ} 0 1 = cc in absurd (omega arith)
+ended-tells Ended.Astray (Ended.Stopped j) k e f = let z : _≡_ {A = ℕ} 0 1 = cc in absurd (omega arith)
+ended-tells Ended.Astray Ended.Astray k e f = refl
+ended-tells Ended.Astray (Ended.Refused r) k e f = let z : 17 ≡ numberOf r = cc in (let l = below-seventeen r in absurd (omega arith))
+ended-tells (Ended.Refused q) Ended.Clear k e f = let z : _≡_ {A = ℕ} 0 1 = cc in absurd (omega arith)
+ended-tells (Ended.Refused q) (Ended.Stopped j) k e f = let z : _≡_ {A = ℕ} 0 1 = cc in absurd (omega arith)
+ended-tells (Ended.Refused q) Ended.Astray k e f = let z : 17 ≡ numberOf q = cc in (let l = below-seventeen q in absurd (omega arith))
+ended-tells (Ended.Refused q) (Ended.Refused r) k e f = let z : numberOf q ≡ numberOf r = cc in ap Ended.Refused (number-tells q r z)
+
+-- over one rule, a walk has one answer
+module _ (n : ℕ) (stops : Rule) where
+  stopped-once : (s : ℕ) (cs : List ℕ) (i j : ℕ) → FirstStopped n stops s cs i → FirstStopped n stops s cs j → i ≡ j
+  stopped-once s cs i j p q = go (decLt i j) (decLt j i)
+    where
+      go : Dec (i < j) → Dec (j < i) → i ≡ j
+      go (yes h) d = absurd (p .stopped (q .before i h))
+      go (no h) (yes g) = absurd (q .stopped (p .before j g))
+      go (no h) (no g) = omega arith
+
+  not-both : (s tag i : ℕ) → FirstStopped n stops s (stepsOf n s tag) i → Clear n stops s (stepsOf n s tag) → ⊥
+  not-both s tag i p clear = let l = steps-of-tag n s tag .stages in let h = p .stage in p .stopped (clear i (omega arith))
+
+  pub walked-once : (s tag : ℕ) (a b : Ended) → Walked n stops s tag a → Walked n stops s tag b → a ≡ b
+  walked-once s tag (Ended.Stopped i) (Ended.Stopped j) p q = ap Ended.Stopped (stopped-once s (stepsOf n s tag) i j p q)
+  walked-once s tag (Ended.Stopped i) Ended.Clear p q = absurd (not-both s tag i p (q .0))
+  walked-once s tag (Ended.Stopped i) Ended.Astray p q = absurd (not-both s tag i p (q .0))
+  walked-once s tag (Ended.Stopped i) (Ended.Refused r) p q = absurd q
+  walked-once s tag Ended.Clear (Ended.Stopped j) p q = absurd (not-both s tag j q (p .0))
+  walked-once s tag Ended.Clear Ended.Clear p q = refl
+  walked-once s tag Ended.Clear Ended.Astray p q = absurd (q .1 (p .1))
+  walked-once s tag Ended.Clear (Ended.Refused r) p q = absurd q
+  walked-once s tag Ended.Astray (Ended.Stopped j) p q = absurd (not-both s tag j q (p .0))
+  walked-once s tag Ended.Astray Ended.Clear p q = absurd (p .1 (q .1))
+  walked-once s tag Ended.Astray Ended.Astray p q = refl
+  walked-once s tag Ended.Astray (Ended.Refused r) p q = absurd q
+  walked-once s tag (Ended.Refused r) b p q = absurd p
+
+-- no second answer
+pub walk-once : (b : Book) (s tag : ℕ) (x y : Ended) → Walks b s tag x → Walks b s tag y → x ≡ y
+walk-once b s tag x y p q =
+    ⊎-elim
+    (λ g. ended-tells x y (g .0) (p .refuses (g .0) (g .1)) (q .refuses (g .0) (g .1)))
+    (λ w. walked-once (b .n) (stopsOf b) s tag x y (p .walks w) (q .walks w))
+    (given-or-passed (walkChecks b s tag))

@@ -1,0 +1,3 @@
+pub mod Walking
+pub mod Promises
+pub mod Entries

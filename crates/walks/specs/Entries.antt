@@ -1,0 +1,47 @@
+-- Document 01, 'Numbers handed back', "Entries and order of checks": walk.
+use mathlib.Core.Path.{_≡_}
+use mathlib.Core.List.{List, [], _∷_}
+use Prim.Native.Nat.{ℕ, _<_}
+use lib.ListN.{getD}
+use Rattle.table.specs.Numbers.{numberOf}
+use Rattle.table.specs.Reply.{Reply, refused}
+use Rattle.table.specs.Checks.{Check, Given, Passed, _when_, _notBelow_}
+use Rattle.fabric.specs.Labels.{size}
+use Rattle.fabric.specs.Walks.{walked, switchAt}
+use Rattle.scheme.specs.Tags.{tags, destination, stepsOf}
+use Rattle.paths.specs.Clear.{Rule, Clear}
+use Rattle.book.specs.declared.Book.{Book}
+use Rattle.book.specs.Standing.{standing, stopper, unsound}
+use Rattle.walks.specs.declared.Ended.{Ended}
+
+-- which links a book stops
+abbrev pub stopsOf : Book → Rule
+stopsOf b i j c = stopper (b .n) (standing b) i j c
+
+-- the number and values of each answer: 11 comes with a stage
+abbrev pub walkSays : Ended → Reply
+walkSays Ended.Clear = Reply.accepted []
+walkSays (Ended.Stopped i) = Reply.refusedWith 11 (i ∷ [])
+walkSays Ended.Astray = refused 17
+walkSays (Ended.Refused r) = refused (numberOf r)
+
+-- "walk (book, source, tag): 16, 10, 12", and then
+abbrev pub walkChecks : Book → ℕ → ℕ → List Check
+walkChecks b s tag = (16 when unsound b) ∷ (10 when s notBelow size (b .n)) ∷ (12 when tag notBelow tags (b .n)) ∷ []
+
+-- "the first stage whose link is stopped"
+pub record FirstStopped (n : ℕ) (stops : Rule) (s : ℕ) (cs : List ℕ) (i : ℕ) : Type 0 where
+  pub stage : i < n
+  pub stopped : stops i (switchAt n s cs i) (getD cs i 0) ≡ 0 → ⊥
+  pub before : (k : ℕ) → k < i → stops k (switchAt n s cs k) (getD cs k 0) ≡ 0
+
+-- "11, 17; otherwise clear": the first stage whose link is stopped; "a walk ended away from its tag's destination"
+abbrev pub Walked : ℕ → Rule → ℕ → ℕ → Ended → Type 0
+Walked n stops s tag (Ended.Stopped i) = FirstStopped n stops s (stepsOf n s tag) i
+Walked n stops s tag Ended.Astray = Clear n stops s (stepsOf n s tag) × (walked n 0 s (stepsOf n s tag) ≡ destination n tag → ⊥)
+Walked n stops s tag Ended.Clear = Clear n stops s (stepsOf n s tag) × (walked n 0 s (stepsOf n s tag) ≡ destination n tag)
+Walked n stops s tag (Ended.Refused r) = ⊥
+
+pub record Walks (b : Book) (s tag : ℕ) (answer : Ended) : Type 0 where
+  pub refuses : (k : ℕ) → Given k (walkChecks b s tag) → walkSays answer ≡ refused k
+  pub walks : Passed (walkChecks b s tag) → Walked (b .n) (stopsOf b) s tag answer
