@@ -15,12 +15,13 @@ use Rattle.fabric.specs.Labels.{outsideSizes}
 use Rattle.notices.specs.declared.Notice.{Notice}
 use Rattle.book.specs.declared.Book.{Book}
 use Rattle.notices.specs.Targets.{unfit}
-use Rattle.book.specs.Standing.{filler, standing, unused, bookOf, insert, without, Filed, misfiled, littered, unsound}
+use Rattle.standing.specs.Rising.{filler, insert, without, Filed, misfiled, littered}
+use Rattle.book.specs.Standing.{standing, unused, bookOf, unsound}
 use Rattle.book.specs.declared.Kept.{Kept}
 use Rattle.book.specs.Entries.{answerSays, opened, Opens, Files, Withdraws, fileChecks}
 use Rattle.book.specs.Runs.{Change, changeChecks, changed, answer, after, Accepted}
-use Rattle.book.proofs.Filings.{filed-passes, filler-unlittered}
-use Rattle.book.proofs.Members.{insert-filed, insert-length, insert-member, insert-has, insert-keeps, without-filed, without-length, without-member, without-keeps}
+use Rattle.standing.proofs.Filings.{filed-passes, filler-unlittered}
+use Rattle.standing.proofs.Members.{insert-filed, insert-length, insert-member, insert-has, insert-keeps, without-filed, without-length, without-member, without-keeps}
 
 pub standing-of : (n : ℕ) (l : List Notice) → standing (bookOf n l) ≡ l
 standing-of n l = take-append-seam l (replicate (48 - length l) filler)

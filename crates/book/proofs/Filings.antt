@@ -1,73 +1,16 @@
--- Laws of lists of notices that filing accepts, by rising number.
-use mathlib.Core.Path.{_≡_, refl, sym, ap, ap₂, _∙_}
-use mathlib.Core.Bool.{Bool, true, false, not, _&&_, _||_, true≢false}
-use mathlib.Core.List.{List, [], _∷_}
-use Prim.Native.Nat.{ℕ, zero, suc, _-_, _≤_}
-use native.Mathlib.Omega.{arith}
-use borrow.Author.Tests.{ne-eqb, lt-leb, eqb-true, leb-false, ltb-false}
-use lib.Dec.{eqb}
+-- A book that passes the test of 16.
+use mathlib.Core.Path.{_≡_, ap, _∙_}
+use mathlib.Core.Bool.{false, _||_}
+use Prim.Native.Nat.{ℕ, _-_}
+use borrow.Author.Tests.{ltb-false}
 use lib.ListN.{length, replicate, length-drop}
-use Rattle.table.proofs.Checks.{neither, both-hold}
-use Rattle.table.specs.Checks.{_below_, _notBelow_}
+use Rattle.table.proofs.Checks.{neither}
+use Rattle.table.specs.Checks.{_below_}
 use Rattle.fabric.specs.Labels.{outsideSizes}
-use Rattle.notices.specs.declared.Notice.{Notice}
-use Rattle.notices.specs.declared.Target.{Target}
-use Rattle.notices.specs.declared.Target.the-variants.{Links, Switch, Pattern}
-use Rattle.notices.specs.Targets.{unfit}
+use Rattle.standing.proofs.Filings.{filed-if, unlittered}
 use Rattle.book.specs.declared.Book.{Book}
-use Rattle.book.specs.Standing.{filler, standing, unused, stands, Filed, misfiled, isFiller, isFirstTarget, littered, unsound, Sound}
-
--- `misfiled` decides `Filed`
-pub filed-if : (n k : ℕ) (l : List Notice) → misfiled n k l ≡ false → Filed n k l
-unfolding misfiled Filed
-filed-if n k [] e = tt
-filed-if n k (x ∷ xs) e =
-    let o = neither (k notBelow x .number || unfit n (x .target)) (misfiled n (x .number) xs) e in
-    let p = neither (k notBelow x .number) (unfit n (x .target)) (o .0) in
-    (leb-false (x .number) k (p .0), p .1, filed-if n (x .number) xs (o .1))
-
-pub filed-passes : (n k : ℕ) (l : List Notice) → Filed n k l → misfiled n k l ≡ false
-unfolding misfiled Filed
-filed-passes n k [] f = refl
-filed-passes n k (x ∷ xs) f = rw (lt-leb (x .number) k (f .0), f .1) (filed-passes n (x .number) xs (f .2))
-
--- `littered` finds anything but the filler
-first-target : (t : Target) → isFirstTarget t ≡ true → t ≡ Links 0 0 0
-first-target (Links stage switch s) e =
-    let o = both-hold (eqb stage 0 && eqb switch 0) (eqb s 0) .0 e in
-    let p = both-hold (eqb stage 0) (eqb switch 0) .0 (o .0) in
-    rw (eqb-true stage 0 (p .0), eqb-true switch 0 (p .1), eqb-true s 0 (o .1))
-first-target (Switch column switch) e = absurd (true≢false (sym e))
-first-target (Pattern stage value mask s) e = absurd (true≢false (sym e))
-
-is-filler : (x : Notice) → isFiller x ≡ true → x ≡ filler
-is-filler x e =
-    let o = both-hold (eqb (x .number) 0) (isFirstTarget (x .target)) .0 e in
-    ap₂ (λ (k : ℕ) (t : Target). record { number = k; target = t }) (eqb-true (x .number) 0 (o .0)) (first-target (x .target) (o .1))
-
-pub unlittered : (l : List Notice) → littered l ≡ false → l ≡ replicate (length l) filler
-unfolding littered
-unlittered [] e = refl
-unlittered (x ∷ xs) e =
-    let o = neither (not (isFiller x)) (littered xs) e in
-    ap₂ (λ (y : Notice) (ys : List Notice). y ∷ ys) (is-filler x (not-not (isFiller x) (o .0))) (unlittered xs (o .1))
-  where
-    not-not : (b : Bool) → not b ≡ false → b ≡ true
-    not-not true h = refl
-    not-not false h = absurd (true≢false h)
-
-pub filler-unlittered : (n : ℕ) → littered (replicate n filler) ≡ false
-unfolding littered
-filler-unlittered zero = refl
-filler-unlittered (suc n) = filler-unlittered n
-
--- no notice stands whose number is not above where the list starts
-pub above-stands-not : (n m k : ℕ) (l : List Notice) → Filed n m l → k ≤ m → stands k l ≡ false
-unfolding stands Filed
-above-stands-not n m k [] f h = refl
-above-stands-not n m k (y ∷ ys) f h =
-    let g = f .0 in
-    rw (ne-eqb (y .number) k (λ e. omega arith)) (above-stands-not n (y .number) k ys (f .2) (omega arith))
+use Rattle.standing.specs.Rising.{filler, misfiled, littered}
+use Rattle.book.specs.Standing.{standing, unused, unsound, Sound}
 
 -- what a book that passes the test of 16 is like
 pub sound-if : (b : Book) → length (b .notices) ≡ 48 → unsound b ≡ false → Sound b

@@ -1,5 +1,4 @@
 -- what the functions' proofs lean on
-pub mod Arrays
 pub mod Filings
 pub mod Placing
 pub mod Listings
@@ -7,7 +6,6 @@ pub mod Answers
 -- what stops a link
 pub mod Stoppers
 -- number 16 exactly, demand 3, and no second answer
-pub mod Members
 pub mod Changes
 pub mod Reach
 pub mod Since

@@ -19,7 +19,8 @@ use Rattle.book.specs.declared.Link.{Link}
 use Rattle.notices.specs.Targets.{names}
 use Rattle.book.specs.Standing.{standing, bookOf, Stopped, stopper}
 use Rattle.book.specs.Entries.{opened, linkChecks, linkSays, Tests}
-use Rattle.book.specs.Runs.{Change, after, Accepted, run, AllAccepted, NotWithdrawn, StandsSince, Distinct}
+use Rattle.book.specs.Runs.{Change, after, Accepted, run, AllAccepted, NotWithdrawn, StandsSince}
+use Rattle.standing.specs.Rising.{Distinct}
 use Rattle.book.proofs.Changes.{Good, good-after, filed-stands, stands-on, stood-or-filed}
 use Rattle.book.proofs.Reach.{good-run, good-sound, opened-good, opened-is, any-order}
 use Rattle.book.proofs.Stoppers.{stopper-some}

@@ -9,8 +9,9 @@ use native.Mathlib.Omega.{arith}
 use native.Mathlib.Decide.{ℕ-discrete}
 use Rattle.notices.specs.declared.Notice.{Notice}
 use Rattle.notices.specs.Targets.{names}
-use Rattle.book.specs.Standing.{Filed, Stopped, stopper}
-use Rattle.book.proofs.Members.{all-above}
+use Rattle.standing.specs.Rising.{Filed}
+use Rattle.book.specs.Standing.{Stopped, stopper}
+use Rattle.standing.proofs.Members.{all-above}
 
 module _ (n i j c : ℕ) where
   abbrev pub Names : Notice → Type 0

@@ -16,7 +16,8 @@ use Rattle.book.specs.declared.Answer.{Answer}
 use Rattle.book.specs.declared.Link.{Link}
 use Rattle.book.specs.declared.Listing.{Listing}
 use Rattle.notices.specs.Targets.{outsideFabric, badField, tooWide}
-use Rattle.book.specs.Standing.{standing, bookOf, stands, insert, without, unsound, stopper}
+use Rattle.book.specs.Standing.{standing, bookOf, unsound, stopper}
+use Rattle.standing.specs.Rising.{stands, insert, without}
 use Rattle.book.specs.Rows.{rows}
 
 -- what an answer to open, file and withdraw says

@@ -1,6 +1,6 @@
 -- Document 01, 'Notices' and 'How much the promises must say': runs of filings and withdrawals from an opened book.
 use mathlib.Core.Path.{_≡_}
-use mathlib.Core.List.{List, [], _∷_, _++_, List·Memᴰ}
+use mathlib.Core.List.{List, [], _∷_, _++_}
 use Prim.Native.Nat.{ℕ}
 use Rattle.table.specs.Reply.{Reply, refused}
 use Rattle.table.specs.Checks.{Check, checked}
@@ -60,8 +60,3 @@ pub record StandsSince (b : Book) (changes : List Change) (x : Notice) : Type 0 
   pub order : changes ≡ before ++ Change.file x ∷ later
   pub accepted : Accepted (Change.file x) (run before b)
   pub kept : NotWithdrawn (x .number) later (after (Change.file x) (run before b))
-
--- no notice stands twice in the list
-unfoldable pub Distinct : List Notice → Type 0
-Distinct [] = Unit
-Distinct (x ∷ xs) = (List·Memᴰ x xs → ⊥) × Distinct xs

@@ -1,35 +1,19 @@
 // The notices of a book in their places: what stands, by rising number, and the unused places after it.
 use super::Book;
 use notices::Notice;
-use notices::Target;
 ghost use mathlib.Core.Path.{_≡_};
 ghost use mathlib.Core.Bool.{true};
 ghost use mathlib.Core.List.{[]};
 ghost use Prim.Native.Nat.{_+_, _≤_, _<_};
-ghost use lib.ListN.{drop};
-ghost use lib.Seq.{paste};
-ghost use Rattle.book.specs.Standing.{filler, standing, unused, bookOf, stands, insert, without, isFiller, littered, misfiled, Sound};
-ghost use Rattle.book.specs.Places.{placeOf};
-
-// What an unused place holds.
-fn filler() -> Notice
-    ensures { λ r. ⌜ r ≡ filler ⌝ }
-{
-    Notice {
-        number: 0,
-        target: Target::Links {
-            stage: 0,
-            switch: 0,
-            set: 0,
-        },
-    }
-}
+ghost use Rattle.standing.specs.Rising.{stands, insert, without, littered, misfiled};
+ghost use Rattle.book.specs.Standing.{standing, unused, bookOf, Sound};
+ghost use Rattle.standing.specs.Places.{placeOf};
 
 // The book of a fabric of n stages in which nothing stands.
 pub fn empty(n: u8) -> Book
     ensures { λ r. ⌜ r ≡ bookOf n [] ⌝ }
 {
-    let x = filler();
+    let x = standing::filler();
     Book {
         n,
         count: 0,
@@ -60,31 +44,6 @@ pub fn misfiled(book: Book) -> bool
     false
 }
 
-// Whether a place holds what unused places hold.
-fn is_filler(x: Notice) -> bool
-    ensures { λ r. ⌜ r ≡ isFiller x ⌝ }
-{
-    let t = x.target;
-    match t {
-        Target::Links { stage, switch, set } => {
-            table::both(
-                x.number == 0,
-                table::both(table::both(stage == 0, switch == 0), set == 0),
-            )
-        }
-        Target::Switch {
-            column: _,
-            switch: _,
-        } => table::both(x.number == 0, false),
-        Target::Pattern {
-            stage: _,
-            value: _,
-            mask: _,
-            set: _,
-        } => table::both(x.number == 0, false),
-    }
-}
-
 // Whether some unused place holds anything else.
 pub fn littered(book: Book) -> bool
     requires { ⌜ book .count ≤ 48 ⌝ }
@@ -93,7 +52,7 @@ pub fn littered(book: Book) -> bool
     let mut i = book.count;
     while i < 48 {
         let x = book.notices[i];
-        if !is_filler(x) {
+        if !standing::is_filler(x) {
             return true;
         }
         i += 1;
@@ -131,21 +90,6 @@ pub fn stands(book: Book, k: u16) -> bool
     false
 }
 
-// The array with `len` notices from `from` on laid from `to` on.
-fn moved(notices: [Notice; 48], from: usize, to: usize, len: usize) -> [Notice; 48]
-    requires { ⌜ (from + len ≤ 48) × (to + len ≤ 48) ⌝ }
-    ensures { λ r. ⌜ r ≡ paste notices to (drop from notices) len ⌝ }
-{
-    let mut out = notices;
-    let mut j = 0;
-    while j < len {
-        let x = notices[from + j];
-        out[to + j] = x;
-        j += 1;
-    }
-    out
-}
-
 // The book with x among its standing notices.
 pub fn inserted(book: Book, x: Notice) -> Book
     requires { ⌜ (Sound book) × (book .count < 48) ⌝ }
@@ -154,7 +98,7 @@ pub fn inserted(book: Book, x: Notice) -> Book
     let count = book.count;
     let notices = book.notices;
     let p = place(book, x.number);
-    let mut grown = moved(notices, p, p + 1, count - p);
+    let mut grown = standing::moved(notices, p, p + 1, count - p);
     grown[p] = x;
     Book {
         n: book.n,
@@ -171,8 +115,8 @@ pub fn removed(book: Book, k: u16) -> Book
     let count = book.count;
     let notices = book.notices;
     let p = place(book, k);
-    let mut shrunk = moved(notices, p + 1, p, count - p - 1);
-    let x = filler();
+    let mut shrunk = standing::moved(notices, p + 1, p, count - p - 1);
+    let x = standing::filler();
     shrunk[count - 1] = x;
     Book {
         n: book.n,

@@ -4,15 +4,15 @@ use super::link;
 use super::links;
 use super::listing;
 use super::pattern;
-use super::say;
 use super::switch;
 use super::withdraw;
 use book::Book;
 use notices::Notice;
+use show::word;
 
 fn entries(why: &[u8], book: Book) {
-    say(why);
-    say(b"\n");
+    word(why);
+    word(b"\n");
     file(book, links(5, 0, 0, 1));
     withdraw(book, 3);
     link(book, 0, 0, 0);
@@ -79,7 +79,7 @@ fn places() {
 }
 
 pub fn run() {
-    say(b"damaged books\n");
+    word(b"damaged books\n");
     sizes();
     counts();
     numbers();

@@ -2,33 +2,19 @@
 use super::file;
 use super::links;
 use super::listing;
-use super::number;
 use super::open;
 use super::pattern;
-use super::say;
 use super::switch;
+use show::word;
 
-fn wide(x: u8) -> u64 {
-    x as u64
-}
-
-// The bytes of the memory, ten to a line.
-fn bytes(memory: &[u8]) {
-    let mut i = 0;
-    while i < memory.len() {
-        number(wide(memory[i]));
-        if i % 10 == 9 {
-            say(b"\n");
-        } else {
-            say(b" ");
-        }
-        i += 1;
-    }
-    say(b"end\n");
+// The bytes of the memory after a listing.
+fn held(memory: &[u8]) {
+    show::bytes(memory);
+    word(b"\n");
 }
 
 pub fn run() {
-    say(b"listings\n");
+    word(b"listings\n");
     let b0 = open(3);
     let mut none = [170u8; 0];
     listing(b0, &mut none);
@@ -37,14 +23,14 @@ pub fn run() {
     let b3 = file(b2, links(7, 0, 1, 4));
     let mut short = [170u8; 29];
     listing(b3, &mut short);
-    bytes(&short);
+    held(&short);
     let mut just = [170u8; 30];
     listing(b3, &mut just);
-    bytes(&just);
+    held(&just);
     let mut long = [170u8; 33];
     listing(b3, &mut long);
-    bytes(&long);
+    held(&long);
     let refused = open(0);
     listing(refused, &mut long);
-    bytes(&long);
+    held(&long);
 }

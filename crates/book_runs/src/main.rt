@@ -6,15 +6,14 @@ use book::Link;
 use book::Listing;
 use notices::Notice;
 use notices::Target;
-use table::Refusal;
+use show::number;
+use show::refused;
+use show::word;
 
 mod full; // full.rt: 48 filings and the 49th
 mod refusals; // refusals.rt: each number of the table
 mod damaged; // damaged.rt: books that no entry hands back
 mod lists; // lists.rt: the listing's bytes
-
-// Standard output.
-const OUT: i32 = 1;
 
 fn main() {
     example_13();
@@ -26,25 +25,12 @@ fn main() {
     lists::run();
 }
 
-pub fn say(text: &[u8]) {
-    io::write_all(OUT, text);
-}
-
-pub fn number(n: u64) {
-    io::print_decimal(OUT, n);
-}
-
-pub fn refused(why: Refusal) {
-    say(b" REFUSED ");
-    number(table::number(why) as u64);
-    say(b"\n");
-}
-
 pub fn told(answer: Answer) {
     match answer {
-        Answer::Done => say(b" OK\n"),
+        Answer::Done => word(b" OK"),
         Answer::Refused(why) => refused(why),
     }
+    word(b"\n");
 }
 
 pub fn links(number: u16, stage: u8, switch: u16, set: u8) -> Notice {
@@ -74,7 +60,7 @@ pub fn pattern(number: u16, stage: u8, value: u16, mask: u16, set: u8) -> Notice
 }
 
 pub fn open(n: u8) -> Book {
-    say(b"open ");
+    word(b"open");
     number(n as u64);
     let kept = Book::open(n);
     let answer = kept.answer;
@@ -84,7 +70,7 @@ pub fn open(n: u8) -> Book {
 }
 
 pub fn file(book: Book, notice: Notice) -> Book {
-    say(b"file ");
+    word(b"file");
     number(notice.number as u64);
     let kept = book.file(notice);
     let answer = kept.answer;
@@ -94,7 +80,7 @@ pub fn file(book: Book, notice: Notice) -> Book {
 }
 
 pub fn withdraw(book: Book, k: u16) -> Book {
-    say(b"withdraw ");
+    word(b"withdraw");
     number(k as u64);
     let kept = book.withdraw(k);
     let answer = kept.answer;
@@ -105,35 +91,36 @@ pub fn withdraw(book: Book, k: u16) -> Book {
 
 // A link by stage, switch and code.
 pub fn link(book: Book, stage: u8, switch: u16, code: u8) {
-    say(b"link ");
+    word(b"link");
     number(stage as u64);
-    say(b" ");
     number(switch as u64);
-    say(b" ");
     number(code as u64);
     match book.link(stage, switch, code) {
-        Link::Clear => say(b" CLEAR\n"),
-        Link::Stopped => say(b" STOPPED\n"),
+        Link::Clear => word(b" CLEAR"),
+        Link::Stopped => word(b" STOPPED"),
         Link::Refused(why) => refused(why),
     }
+    word(b"\n");
 }
 
 pub fn listing(book: Book, memory: &mut [u8]) {
-    say(b"listing in ");
+    word(b"listing in");
     number(memory.len() as u64);
     match book.listing(memory) {
-        Listing::Listed(count) => {
-            say(b" LISTED ");
-            number(count as u64);
-            say(b"\n");
-        }
+        Listing::Listed(count) => listed(count),
         Listing::Refused(why) => refused(why),
     }
+    word(b"\n");
+}
+
+fn listed(count: usize) {
+    word(b" LISTED");
+    number(count as u64);
 }
 
 // Example 13: "notices 7 and 8 name one link, 7 withdrawn: still stopped."
 fn example_13() {
-    say(b"example 13\n");
+    word(b"example 13\n");
     let b0 = open(3);
     let b1 = file(b0, links(7, 0, 1, 4));
     let b2 = file(b1, pattern(8, 0, 1, 3, 4));
@@ -146,7 +133,7 @@ fn example_13() {
 
 // "A withdrawn notice's number and place can be used again."
 fn used_again() {
-    say(b"used again\n");
+    word(b"used again\n");
     let b0 = open(3);
     let b1 = file(b0, links(7, 1, 6, 1));
     let b2 = file(b1, links(7, 2, 0, 1));
@@ -161,7 +148,7 @@ fn used_again() {
 
 // "It stops the switch's input links", reduced modulo N; "Column 0 has no input links"; plus and minus at the last stage.
 fn inputs() {
-    say(b"input links\n");
+    word(b"input links\n");
     let b0 = open(3);
     let b1 = file(b0, switch(1, 1, 2));
     link(b1, 0, 2, 0);

@@ -4,14 +4,14 @@ use super::link;
 use super::links;
 use super::open;
 use super::pattern;
-use super::say;
 use super::switch;
 use super::withdraw;
 use book::Book;
+use show::word;
 
 // 1: n outside 1 to 12; and the book then handed back.
 fn sizes() {
-    say(b"sizes\n");
+    word(b"sizes\n");
     let b = open(0);
     file(b, links(0, 255, 0, 0));
     withdraw(b, 0);
@@ -24,7 +24,7 @@ fn sizes() {
 
 // 3 and 4.
 fn numbers_and_places(b: Book) {
-    say(b"numbers and places\n");
+    word(b"numbers and places\n");
     file(b, links(0, 3, 0, 0));
     file(b, links(1, 3, 0, 0));
     file(b, links(1, 2, 8, 8));
@@ -39,7 +39,7 @@ fn numbers_and_places(b: Book) {
 
 // 5.
 fn fields(b: Book) {
-    say(b"fields\n");
+    word(b"fields\n");
     file(b, links(1, 2, 7, 0));
     file(b, links(1, 2, 7, 8));
     file(b, links(1, 2, 7, 7));
@@ -54,7 +54,7 @@ fn fields(b: Book) {
 
 // 6: at n = 1 no pattern is accepted.
 fn widths(b: Book) {
-    say(b"widths\n");
+    word(b"widths\n");
     file(b, pattern(9, 0, 1, 1, 7));
     file(b, pattern(9, 0, 0, 0, 7));
     file(b, pattern(9, 0, 1, 3, 7));
@@ -66,7 +66,7 @@ fn widths(b: Book) {
 
 // 7 and 9.
 fn standing(b: Book) {
-    say(b"standing\n");
+    word(b"standing\n");
     let b1 = file(b, links(7, 0, 0, 1));
     file(b1, links(7, 1, 1, 1));
     file(b1, links(7, 3, 1, 1));
@@ -78,7 +78,7 @@ fn standing(b: Book) {
 
 // 4 and 12 of the link test.
 fn tests(b: Book) {
-    say(b"links\n");
+    word(b"links\n");
     link(b, 3, 0, 0);
     link(b, 2, 8, 3);
     link(b, 2, 7, 3);

@@ -11,7 +11,8 @@ use Rattle.book.specs.declared.Kept.{Kept}
 use Rattle.book.specs.declared.Link.{Link}
 use Rattle.book.specs.declared.Listing.{Listing}
 use Rattle.book.specs.Entries.{opened, Files, Withdraws, Tests, Lists}
-use Rattle.book.specs.Runs.{Change, run, StandsSince, Distinct}
+use Rattle.book.specs.Runs.{Change, run, StandsSince}
+use Rattle.standing.specs.Rising.{Distinct}
 use Rattle.book.proofs.Since.{same-book}
 use Rattle.book.proofs.Once.{files-once, withdraws-once, tests-once, lists-once}
 use Rattle.walks.specs.declared.Ended.{Ended}

@@ -17,7 +17,8 @@ use Rattle.tags.specs.Entries.{normalFormChecks}
 use Rattle.tags.proofs.Promises.{form-accepts}
 use Rattle.paths.specs.Frontier.{high, through, lesser, advanced}
 use Rattle.book.specs.declared.Book.{Book}
-use Rattle.book.specs.Standing.{standing, stopper, stands, insert, without, misfiled, littered}
+use Rattle.book.specs.Standing.{standing, stopper}
+use Rattle.standing.specs.Rising.{stands, insert, without, misfiled, littered}
 use Rattle.book.specs.Entries.{opened, linkChecks}
 use Rattle.book.specs.Runs.{run}
 use Rattle.book.proofs.Answers.{link-stopped}

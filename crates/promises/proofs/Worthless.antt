@@ -23,12 +23,13 @@ use Rattle.book.specs.declared.Answer.{Answer}
 use Rattle.book.specs.declared.Link.{Link}
 use Rattle.notices.specs.declared.Target.the-variants.{Links}
 use Rattle.notices.specs.Targets.{names}
-use Rattle.book.specs.Standing.{standing, unused, stopper, stands, insert, without, misfiled, littered, unsound}
+use Rattle.book.specs.Standing.{standing, unused, stopper, unsound}
+use Rattle.standing.specs.Rising.{stands, insert, without, misfiled, littered}
 use Rattle.book.specs.Entries.{answerSays, linkSays, opened, fileChecks, withdrawChecks, linkChecks, filed, withdrawn, Files, Tests}
 use Rattle.book.specs.Runs.{run}
-use Rattle.book.proofs.Members.{insert-length, without-keeps}
+use Rattle.standing.proofs.Members.{insert-length, without-keeps}
 use Rattle.book.proofs.Changes.{standing-of}
-use Rattle.book.proofs.Filings.{filed-if}
+use Rattle.standing.proofs.Filings.{filed-if}
 use Rattle.book.proofs.Stoppers.{stopper-none}
 use Rattle.book.proofs.Once.{answer-tells}
 use Rattle.router.specs.declared.Found.{Found}

@@ -13,7 +13,7 @@ use Rattle.notices.specs.declared.Notice.{Notice}
 use Rattle.notices.specs.declared.Target.{Target}
 use Rattle.notices.specs.declared.Target.the-variants.{Links, Switch, Pattern}
 use Rattle.notices.specs.Targets.{outsideFabric, badField, tooWide, unfit}
-use Rattle.book.specs.Standing.{misfiled}
+use Rattle.standing.specs.Rising.{misfiled}
 use Rattle.router.specs.Marks.{columnOf}
 
 pub last-true : (a b : Bool) → b ≡ true → (a || b) ≡ true

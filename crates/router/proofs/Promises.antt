@@ -12,8 +12,9 @@ use Rattle.table.specs.Checks.{Given, Given.here, Given.later, Passed, Passed.n
 use Rattle.table.proofs.Checks.{given-once, not-given-and-passed}
 use Rattle.fabric.specs.Labels.{size, outsideSizes}
 use Rattle.book.specs.declared.Book.{Book}
-use Rattle.book.specs.Standing.{standing, unused, unsound, misfiled, littered}
-use Rattle.book.proofs.Arrays.{none-left}
+use Rattle.book.specs.Standing.{standing, unused, unsound}
+use Rattle.standing.specs.Rising.{misfiled, littered}
+use Rattle.standing.proofs.Arrays.{none-left}
 use Rattle.router.specs.declared.Found.{Found}
 use Rattle.router.proofs.Filing.{last-true}
 use Rattle.walks.specs.Entries.{stopsOf}

@@ -4,8 +4,9 @@ use Prim.Native.Nat.{_≤_, _-_}
 use native.Mathlib.Omega.{arith}
 use borrow.Author.Needs.{needs}
 use lib.ListN.{length, take, drop}
-use Rattle.book.specs.Standing.{filler, stopper}
-use Rattle.book.proofs.Arrays.{length-mapped, next-of, none-left-of}
+use Rattle.standing.specs.Rising.{filler}
+use Rattle.book.specs.Standing.{stopper}
+use Rattle.standing.proofs.Arrays.{length-mapped, next-of, none-left-of}
 use Rattle.book.proofs.stopper.Statement.{statement}
 use Rattle.book.proofs.stopper.Tie as tie
 

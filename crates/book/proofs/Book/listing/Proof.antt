@@ -12,7 +12,7 @@ use Rattle.table.proofs.Checks.{given-refuses, passed-accepts}
 use Rattle.book.specs.Standing.{standing}
 use Rattle.book.specs.Rows.{rows}
 use Rattle.book.specs.Entries.{listingChecks}
-use Rattle.book.proofs.Arrays.{length-mapped}
+use Rattle.standing.proofs.Arrays.{length-mapped}
 use Rattle.book.proofs.Placing.{length-standing}
 use Rattle.book.proofs.Listings.{length-rows}
 use Rattle.book.proofs.Book.listing.Statement.{statement}

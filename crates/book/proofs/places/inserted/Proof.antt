@@ -3,7 +3,7 @@ use mathlib.Core.Path.{_≡_, ap, _∙_}
 use Prim.Native.Nat.{_+_}
 use borrow.Author.Needs.{needs}
 use lib.ListN.{length, set}
-use Rattle.book.proofs.Arrays.{length-mapped}
+use Rattle.standing.proofs.Arrays.{length-mapped}
 use Rattle.book.proofs.Placing.{made, book-inserts}
 use Rattle.book.proofs.places.inserted.Statement.{statement}
 use Rattle.book.proofs.places.inserted.Tie as tie

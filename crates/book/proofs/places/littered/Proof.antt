@@ -4,8 +4,8 @@ use Prim.Native.Nat.{_≤_, _-_}
 use native.Mathlib.Omega.{arith}
 use borrow.Author.Needs.{needs}
 use lib.ListN.{length, drop}
-use Rattle.book.specs.Standing.{filler, littered}
-use Rattle.book.proofs.Arrays.{length-mapped, next, none-left}
+use Rattle.standing.specs.Rising.{filler, littered}
+use Rattle.standing.proofs.Arrays.{length-mapped, next, none-left}
 use Rattle.book.proofs.places.littered.Statement.{statement}
 use Rattle.book.proofs.places.littered.Tie as tie
 

@@ -5,8 +5,8 @@ use native.Mathlib.Omega.{arith}
 use borrow.Author.Tests.{le-leb, lt-leb}
 use borrow.Author.Needs.{needs}
 use lib.ListN.{length, take, drop, getD}
-use Rattle.book.specs.Standing.{filler, misfiled}
-use Rattle.book.proofs.Arrays.{length-mapped, next-of, none-left-of}
+use Rattle.standing.specs.Rising.{filler, misfiled}
+use Rattle.standing.proofs.Arrays.{length-mapped, next-of, none-left-of}
 use Rattle.book.proofs.places.misfiled.Statement.{statement}
 use Rattle.book.proofs.places.misfiled.Tie as tie
 

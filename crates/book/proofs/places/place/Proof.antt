@@ -5,9 +5,9 @@ use native.Mathlib.Omega.{arith}
 use borrow.Author.Tests.{le-leb, lt-leb}
 use borrow.Author.Needs.{needs}
 use lib.ListN.{length, take, drop}
-use Rattle.book.specs.Standing.{filler}
-use Rattle.book.specs.Places.{placeOf}
-use Rattle.book.proofs.Arrays.{length-mapped, next-of, none-left-of}
+use Rattle.standing.specs.Rising.{filler}
+use Rattle.standing.specs.Places.{placeOf}
+use Rattle.standing.proofs.Arrays.{length-mapped, next-of, none-left-of}
 use Rattle.book.proofs.places.place.Statement.{statement}
 use Rattle.book.proofs.places.place.Tie as tie
 

@@ -2,7 +2,7 @@
 use mathlib.Core.Path.{_≡_}
 use borrow.Author.Needs.{needs}
 use lib.ListN.{length}
-use Rattle.book.proofs.Arrays.{length-mapped}
+use Rattle.standing.proofs.Arrays.{length-mapped}
 use Rattle.book.proofs.Placing.{stands-here, stands-nowhere}
 use Rattle.book.proofs.places.stands.Statement.{statement}
 use Rattle.book.proofs.places.stands.Tie as tie

@@ -5,9 +5,9 @@ use Prim.Native.Nat.{_≤_, _-_, _*_}
 use native.Mathlib.Omega.{arith}
 use borrow.Author.Needs.{needs}
 use lib.ListN.{length, take, drop}
-use Rattle.book.specs.Standing.{filler}
+use Rattle.standing.specs.Rising.{filler}
 use Rattle.book.specs.Rows.{rows}
-use Rattle.book.proofs.Arrays.{length-mapped}
+use Rattle.standing.proofs.Arrays.{length-mapped}
 use Rattle.book.proofs.Listings.{one-row-more}
 use Rattle.book.proofs.rows.laid.Statement.{statement}
 use Rattle.book.proofs.rows.laid.Tie as tie

@@ -1,14 +1,13 @@
--- 48 turns, and no more filings accepted than turns made.
-use Prim.Native.Nat.{_≤_, _+_}
+-- 48 turns.
 use borrow.Author.Needs.{needs}
 use Rattle.book_runs.proofs.full.filled.Statement.{statement}
 use Rattle.book_runs.proofs.full.filled.Tie as tie
 
 abbrev Inv-loop : tie.InvT-loop
-Inv-loop book₀ left₀ accepted₀ t8 book left accepted = accepted + left ≤ 48
+Inv-loop book₀ left₀ book left = Unit
 
 abbrev μ-loop : tie.MeasureT-loop
-μ-loop book₀ left₀ accepted₀ t8 book left accepted = left
+μ-loop book₀ left₀ book left = left
 
 loop-holds : tie.Need-loop-holds Inv-loop μ-loop
 loop-holds c = search needs
@@ -19,12 +18,6 @@ links-requires c κs = search needs
 file-requires : tie.Need-file-requires Inv-loop μ-loop
 file-requires c κs = search needs
 
-one-if-done-requires : tie.Need-one-if-done-requires Inv-loop μ-loop
-one-if-done-requires c κs = search needs
-
-add-accepted : tie.Need-add-accepted Inv-loop μ-loop
-add-accepted c = search needs
-
 sub-left : tie.Need-sub-left Inv-loop μ-loop
 sub-left c = search needs
 
@@ -33,15 +26,6 @@ loop-less c = search needs
 
 loop-again : tie.Need-loop-again Inv-loop μ-loop
 loop-again c = search needs
-
-number-requires : tie.Need-number-requires Inv-loop μ-loop
-number-requires c κs = search needs
-
-slice-aggregate-say : tie.Need-slice-aggregate-say Inv-loop μ-loop
-slice-aggregate-say c = search needs
-
-say-requires : tie.Need-say-requires Inv-loop μ-loop
-say-requires c κs = search needs
 
 returns : tie.Need-returns Inv-loop μ-loop
 returns c = search needs
@@ -55,12 +39,7 @@ filled-spec =
     loop-holds
     links-requires
     file-requires
-    one-if-done-requires
-    add-accepted
     sub-left
     loop-less
     loop-again
-    number-requires
-    slice-aggregate-say
-    say-requires
     returns)

@@ -9,8 +9,9 @@ use lib.Dec.{leb}
 use lib.ListN.{length, take, drop, getD, set, replicate, length-set}
 use Rattle.fabric.specs.Links.{lands}
 use Rattle.notices.specs.declared.Notice.{Notice}
-use Rattle.book.specs.Standing.{filler, misfiled, stopper}
-use Rattle.book.proofs.Arrays.{length-mapped, none-left-of}
+use Rattle.standing.specs.Rising.{filler, misfiled}
+use Rattle.book.specs.Standing.{stopper}
+use Rattle.standing.proofs.Arrays.{length-mapped, none-left-of}
 use Rattle.paths.specs.Frontier.{high}
 use Rattle.paths.proofs.Pivots.{high-lt}
 use Rattle.walks.specs.Entries.{stopsOf}

@@ -6,8 +6,8 @@ use native.Mathlib.Numerals.{add-one}
 use borrow.Author.Needs.{needs}
 use lib.ListN.{length, drop, length-drop, length-set}
 use lib.Seq.{paste, paste-zero, paste-suc, getD-drop}
-use Rattle.book.proofs.places.moved.Statement.{statement}
-use Rattle.book.proofs.places.moved.Tie as tie
+use Rattle.standing.proofs.moved.Statement.{statement}
+use Rattle.standing.proofs.moved.Tie as tie
 
 abbrev Inv-loop : tie.InvT-loop
 Inv-loop from to len notices out₀ j₀ out j = (j ≤ len) × (out ≡ paste notices to (drop from notices) j) × (length notices ≡ 48) × (length out ≡ 48)

@@ -1,0 +1,4 @@
+pub mod Arrays
+pub mod Filings
+pub mod Placing
+pub mod Members
