@@ -19,7 +19,7 @@ use Rattle.book.specs.declared.Link.{Link}
 use Rattle.notices.specs.Targets.{names}
 use Rattle.book.specs.Standing.{standing, bookOf, Stopped, stopper}
 use Rattle.book.specs.Entries.{opened, linkChecks, linkSays, Tests}
-use Rattle.book.specs.Runs.{Change, after, Accepted, run, AllAccepted, NotWithdrawn, StandsSince}
+use Rattle.book.specs.Runs.{NamedSince, Change, after, Accepted, run, AllAccepted, NotWithdrawn, StandsSince}
 use Rattle.standing.specs.Rising.{Distinct}
 use Rattle.book.proofs.Changes.{Good, good-after, filed-stands, stands-on, stood-or-filed}
 use Rattle.book.proofs.Reach.{good-run, good-sound, opened-good, opened-is, any-order}
@@ -95,11 +95,7 @@ stands-exactly n changes x =
 
 -- and so it is with what the link test answers
 module _ (n : ℕ) (legal : outsideSizes n ≡ false) (changes : List Change) (i j c : ℕ) (stage : i < n) (label : j < size n) (code : c < 3) (r : Link) where
-  -- some notice names the link that was accepted and not withdrawn since
-  abbrev pub NamedSince : Type 0
-  NamedSince = (x : Notice) × StandsSince (opened n) changes x × (names n (x .target) i j c ≡ true)
-
-  abbrev pub end : Book
+  abbrev end : Book
   end = run changes (opened n)
 
   end-good : Good n end
@@ -116,13 +112,13 @@ module _ (n : ℕ) (legal : outsideSizes n ≡ false) (changes : List Change) (i
       (passes (neither-of _ _ (ap (λ (k : ℕ). leb k i) same-size ∙ lt-leb n i stage) (ap (λ (k : ℕ). leb (size k) j) same-size ∙ lt-leb (size n) j label))
       (passes (le-ltb 2 c (omega arith)) none)))
 
-  named : Stopped n (standing end) i j c → NamedSince
+  named : Stopped n (standing end) i j c → NamedSince n changes i j c
   named w = (w .0, stands-exactly n changes (w .0) .0 (w .1), w .2)
 
-  stopped : NamedSince → Stopped n (standing end) i j c
+  stopped : NamedSince n changes i j c → Stopped n (standing end) i j c
   stopped w = (w .0, stands-exactly n changes (w .0) .1 (w .1), w .2)
 
-  by-stopper : Tests end i j c r → Dec (stopper n (standing end) i j c ≡ 0) → ((r ≡ Link.Clear) × (NamedSince → ⊥)) ⊎ ((r ≡ Link.Stopped) × NamedSince)
+  by-stopper : Tests end i j c r → Dec (stopper n (standing end) i j c ≡ 0) → ((r ≡ Link.Clear) × (NamedSince n changes i j c → ⊥)) ⊎ ((r ≡ Link.Stopped) × NamedSince n changes i j c)
   by-stopper t (yes e) =
       inl (
         link-tells r Link.Clear (test-says t ∙ ap (λ (k : ℕ). Reply.accepted (cond (eqb k 0) 0 1 ∷ [])) (ap (λ (k : ℕ). stopper k (standing end) i j c) same-size ∙ e)),
@@ -136,7 +132,7 @@ module _ (n : ℕ) (legal : outsideSizes n ≡ false) (changes : List Change) (i
       )
 
   -- "link stopped or not": stopped where some notice names the link that was accepted and not withdrawn since, clear otherwise
-  pub link-exactly : Tests end i j c r → ((r ≡ Link.Clear) × (NamedSince → ⊥)) ⊎ ((r ≡ Link.Stopped) × NamedSince)
+  pub link-exactly : Tests end i j c r → ((r ≡ Link.Clear) × (NamedSince n changes i j c → ⊥)) ⊎ ((r ≡ Link.Stopped) × NamedSince n changes i j c)
   link-exactly t = by-stopper t (ℕ-discrete (stopper n (standing end) i j c) 0)
 
 -- every change of a book of size 0 is refused

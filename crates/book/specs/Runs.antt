@@ -1,10 +1,12 @@
 -- Document 01, 'Notices' and 'How much the promises must say': runs of filings and withdrawals from an opened book.
 use mathlib.Core.Path.{_≡_}
+use mathlib.Core.Bool.{true}
 use mathlib.Core.List.{List, [], _∷_, _++_}
 use Prim.Native.Nat.{ℕ}
 use Rattle.table.specs.Reply.{Reply, refused}
 use Rattle.table.specs.Checks.{Check, checked}
 use Rattle.notices.specs.declared.Notice.{Notice}
+use Rattle.notices.specs.Targets.{names}
 use Rattle.book.specs.declared.Book.{Book}
 use Rattle.book.specs.Entries.{openChecks, opened, fileChecks, withdrawChecks, filed, withdrawn}
 
@@ -60,3 +62,7 @@ pub record StandsSince (b : Book) (changes : List Change) (x : Notice) : Type 0 
   pub order : changes ≡ before ++ Change.file x ∷ later
   pub accepted : Accepted (Change.file x) (run before b)
   pub kept : NotWithdrawn (x .number) later (after (Change.file x) (run before b))
+
+-- in a run from an empty book of n stages, some notice names the link that was accepted and not withdrawn since
+abbrev pub NamedSince : ℕ → List Change → ℕ → ℕ → ℕ → Type 0
+NamedSince n changes i j c = (x : Notice) × StandsSince (opened n) changes x × (names n (x .target) i j c ≡ true)

@@ -12,10 +12,10 @@ use lib.Bits.{bitAnd, and-step, and-zero-r}
 use lib.Pow.{shr-lt, pow-mono}
 use lib.Count.{ones, ones-step, ones-le}
 use Rattle.table.proofs.Checks.{neither}
-use Rattle.table.specs.Checks.{_notBelow_}
+use Rattle.table.specs.Checks.{_below_, _notBelow_}
 use Rattle.fabric.specs.Labels.{size}
 use Rattle.notices.specs.declared.Target.the-variants.{Pattern}
-use Rattle.notices.specs.Targets.{names, setHas, badSet, badField, tooWide, howMany, switchesNamed}
+use Rattle.notices.specs.Targets.{names, setHas, badSet, badField, tooWide, unfit, howMany, switchesNamed}
 
 -- tests that agree pick the same number of labels
 same-tests : (f g : ℕ → Bool) → ((j : ℕ) → f j ≡ g j) → (k : ℕ) → howMany f k ≡ howMany g k
@@ -146,3 +146,17 @@ module _ (n stage value mask s c : ℕ) (good : badField n (Pattern stage value 
       let r = pow-suc 2 (suc (n - ones mask)) in
       let k = pattern-names-many in
       omega arith
+
+-- "so at n = 1 no pattern is accepted"
+pub one-stage-no-pattern : (stage value mask s : ℕ) → unfit 1 (Pattern stage value mask s) ≡ true
+one-stage-no-pattern stage value mask s = go (unfit 1 (Pattern stage value mask s)) refl
+  where
+    go : (u : Bool) → unfit 1 (Pattern stage value mask s) ≡ u → unfit 1 (Pattern stage value mask s) ≡ true
+    go true e = e
+    go false e =
+        let o = neither (stage notBelow 1 || badField 1 (Pattern stage value mask s)) (ones mask below 2) e in
+        let f = neither (stage notBelow 1) (badField 1 (Pattern stage value mask s)) (o .0) .1 in
+        let m = neither (badSet s || mask notBelow size 1) (not (eqb (bitAnd value mask) value)) f .0 in
+        let few = ones-le 1 mask (leb-false (size 1) mask (neither (badSet s) (mask notBelow size 1) m .1)) in
+        let many = ltb-false (ones mask) 2 (o .1) in
+        absurd (omega arith)

@@ -15,7 +15,7 @@ use Rattle.fabric.specs.Links.{Code, lands}
 use Rattle.fabric.proofs.Bits.{bit-lt, bit-of-low, agree-by-bits, agree-below}
 use Rattle.fabric.proofs.Links.{each-code, minus-then-plus, plus-then-minus}
 use Rattle.notices.specs.declared.Target.the-variants.{Links, Switch, Pattern}
-use Rattle.notices.specs.Targets.{setHas, names}
+use Rattle.notices.specs.Targets.{setHas, Input, names}
 use Rattle.table.proofs.Checks.{both-hold}
 
 -- "Links: stage 0 to n-1, switch, and a set"
@@ -27,11 +27,7 @@ links-names n stage switch s i j c =
       (λ w. o .1 (p .1 (eq-eqb i stage (w .0), eq-eqb j switch (w .1)), w .2)),
     )
 
--- "for column i above 0, at stage i-1, the straight link of j, plus of j - 2^(i-1), minus of j + 2^(i-1)": the switch w of
--- column i + 1, whose link of code c leaves switch j; minus from w lands 2^i below it, plus 2^i above
-abbrev pub Input : ℕ → ℕ → ℕ → ℕ → ℕ → Type 0
-Input n i w j c = ((c ≡ 0) × (j ≡ w)) ⊎ (((c ≡ 1) × (j ≡ lands n i 2 w)) ⊎ ((c ≡ 2) × (j ≡ lands n i 1 w)))
-
+-- a switch notice names the input links that 01 lists
 module _ (n i w j : ℕ) (stage : i < n) (to : w < size n) (from : j < size n) where
   lands-inputs : (c : ℕ) → Code c → (lands n i c j ≡ w) ↔ Input n i w j c
   lands-inputs =

@@ -1,5 +1,7 @@
 -- Document 01, 'Notices' and 'Numbers handed back': which links a target names, and when filing refuses it.
+use mathlib.Core.Path.{_≡_}
 use mathlib.Core.Bool.{Bool, false, cond, not, _&&_, _||_}
+use mathlib.Core.Logic.{_⊎_}
 use Prim.Native.Nat.{ℕ, zero, suc, _+_}
 use lib.Dec.{eqb}
 use lib.Bits.{bitAnd}
@@ -13,6 +15,11 @@ use Rattle.notices.specs.declared.Target.the-variants.{Links, Switch, Pa
 -- "a set (straight 1, plus 2, minus 4, added; 1 to 7)": code c is in the set where the set's bit c is one
 abbrev pub setHas : ℕ → ℕ → Bool
 setHas set c = eqb (bit c set) 1
+
+-- "for column i above 0, at stage i-1, the straight link of j, plus of j - 2^(i-1), minus of j + 2^(i-1)": the link of code
+-- c that leaves switch j at stage i is an input link of switch w of column i + 1; minus from w lands 2^i below it, plus 2^i above
+abbrev pub Input : ℕ → ℕ → ℕ → ℕ → ℕ → Type 0
+Input n i w j c = ((c ≡ 0) × (j ≡ w)) ⊎ (((c ≡ 1) × (j ≡ lands n i 2 w)) ⊎ ((c ≡ 2) × (j ≡ lands n i 1 w)))
 
 -- Whether a target names the link of code c that leaves switch j at stage i of a fabric of n stages.
 -- Links: "stage 0 to n-1, switch, and a set".

@@ -39,11 +39,6 @@ module _ (n i j : ℕ) (inside : i < n) (label : j < size n) where
 abbrev pub highRight : ℕ → ℕ → ℕ → ℕ → Bool
 highRight n s d i = eqb (bit i (high n s d i)) (bit i d)
 
--- the high switch of the next column
-pub high-next : (n s d i : ℕ) (j code b t : ℕ) → j ≡ high n s d i → b ≡ bit i j → t ≡ bit i d → code ≡ cond (eqb b t) 0 1 → lands n i code j ≡ high n s d (i + 1)
-unfolding high
-high-next n s d i j code b t e eb et ec = rw (add-one, ec, eb, et, e)
-
 module _ (n s d : ℕ) (source : s < size n) where
   pub high-lt : (i : ℕ) → high n s d i < size n
   unfolding high

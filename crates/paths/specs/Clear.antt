@@ -12,6 +12,10 @@ use Rattle.scheme.specs.Scheme.{stateFor}
 abbrev pub Rule : Type 0
 Rule = ℕ → ℕ → ℕ → ℕ
 
+-- two rules under which the same links are stopped
+abbrev pub Alike : Rule → Rule → Type 0
+Alike f g = (i j c : ℕ) → (f i j c ≡ 0 → g i j c ≡ 0) × (g i j c ≡ 0 → f i j c ≡ 0)
+
 -- none of the links of a walk from s is stopped
 abbrev pub Clear : ℕ → Rule → ℕ → List ℕ → Type 0
 Clear n stops s cs = (k : ℕ) → k < length cs → stops k (switchAt n s cs k) (getD cs k 0) ≡ 0

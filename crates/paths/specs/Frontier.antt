@@ -1,5 +1,5 @@
--- The router's own bookkeeping, stage by stage. Nobody has to believe it: `advanced-best` ties it to the definitions of
--- Clear.antt.
+-- The router's own bookkeeping, stage by stage. Nobody has to believe it: `advanced-holds`, `found-first` and `stage-named`
+-- tie it to the definitions of Clear.antt.
 use mathlib.Core.Bool.{Bool, true, false, cond, _&&_}
 use Prim.Native.Nat.{ℕ, zero, suc, _+_, _-_, _*_, _^_, _<_}
 use lib.Dec.{eqb, leb}

@@ -123,10 +123,3 @@ pub fn reached(front: Front) -> bool
     let low = front.low;
     low.reached
 }
-
-// The code of the link that leads from the high switch of a column to that of the next.
-pub fn rise(right: bool) -> u8
-    ensures { λ r. ⌜ r ≡ cond right 0 1 ⌝ }
-{
-    if right { 0 } else { 1 }
-}

@@ -26,8 +26,8 @@ abbrev pub Prints : List ℕ → Header → List ℕ → Type 0
 Prints sheet (Header.Sheet n count) text = (lines : List ℕ) × (b : Book) × Lines sheet n count lines b × (text ≡ sheetLine n count ++ lines)
 Prints sheet (Header.Refused why) text = text ≡ refusedSheet why
 
--- the room that a run asks for, whatever it prints: 24 bytes for the first line and 48 for each action. `runs-fit` says that
--- the whole text then lies within it.
+-- the room that a run asks for, whatever it prints: 24 bytes for the first line and 48 for each action. That they suffice is
+-- `short` of each line that is written; `runs-fit` says that what was printed lies within the memory.
 abbrev pub room : Header → ℕ
 room (Header.Sheet n count) = 24 + 48 * count
 room (Header.Refused why) = 24

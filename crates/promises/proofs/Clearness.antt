@@ -1,21 +1,44 @@
--- A path that the router calls clear meets no link that a standing notice names, and the other way round: demand 2's 'stopped'
--- is demand 3's.
+-- Demand 3's first half, over demand 2's routes: after any run a walk is clear for the router exactly when no notice accepted and not
+-- withdrawn since names one of its links.
+use mathlib.Core.Path.{_≡_, sym, ap, _∙_}
+use mathlib.Core.Bool.{false}
 use mathlib.Core.List.{List}
-use Prim.Native.Nat.{ℕ, _<_}
-use lib.ListN.{length, getD}
+use mathlib.Core.Logic.{_↔_}
+use Prim.Native.Nat.{ℕ}
+use lib.ListN.{getD}
+use Rattle.fabric.specs.Labels.{outsideSizes}
 use Rattle.fabric.specs.Walks.{switchAt}
-use Rattle.book.specs.declared.Book.{Book}
-use Rattle.book.specs.Standing.{standing, Stopped, Sound}
-use Rattle.book.proofs.Stoppers.{stopper-none}
 use Rattle.paths.specs.Clear.{Clear}
+use Rattle.book.specs.declared.Book.{Book}
+use Rattle.book.specs.Standing.{standing, stopper}
+use Rattle.book.specs.Entries.{opened}
+use Rattle.book.specs.Runs.{Change, run}
+use Rattle.book.proofs.Changes.{Good}
+use Rattle.book.proofs.Reach.{good-run, opened-good, opened-is}
+use Rattle.book.proofs.Since.{stands-exactly}
+use Rattle.book.proofs.Stoppers.{stopper-none}
 use Rattle.walks.specs.Entries.{stopsOf}
+use Rattle.promises.specs.Clearness.{UnnamedSince}
 
-module _ (b : Book) (sound : Sound b) (s : ℕ) (cs : List ℕ) where
-  abbrev Unstopped : Type 0
-  Unstopped = (k : ℕ) → k < length cs → Stopped (b .n) (standing b) k (switchAt (b .n) s cs k) (getD cs k 0) → ⊥
+module _ (n : ℕ) (legal : outsideSizes n ≡ false) (changes : List Change) (s : ℕ) (cs : List ℕ) where
+  abbrev end : Book
+  end = run changes (opened n)
 
-  pub clear-unstopped : Clear (b .n) (stopsOf b) s cs → Unstopped
-  clear-unstopped clear k h = stopper-none (b .n) k (switchAt (b .n) s cs k) (getD cs k 0) (standing b) (sound .filed) .0 (clear k h)
+  good : Good n end
+  good = good-run n changes (opened n) (rw (opened-is n legal) (opened-good n))
 
-  pub unstopped-clear : Unstopped → Clear (b .n) (stopsOf b) s cs
-  unstopped-clear none k h = stopper-none (b .n) k (switchAt (b .n) s cs k) (getD cs k 0) (standing b) (sound .filed) .1 (none k h)
+  -- the book's rule is that of its size
+  rule : (i j c : ℕ) → stopsOf end i j c ≡ stopper n (standing end) i j c
+  rule i j c = ap (λ (m : ℕ). stopper m (standing end) i j c) (ap (λ (b : Book). b .n) (good .whole))
+
+  pub clear-since : Clear n (stopsOf end) s cs ↔ UnnamedSince n changes s cs
+  clear-since = (
+    (λ clear k h x since named.
+        stopper-none n k (switchAt n s cs k) (getD cs k 0) (standing end) (good .filed) .0
+        (sym (rule k (switchAt n s cs k) (getD cs k 0)) ∙ clear k h)
+        (x, stands-exactly n changes x .1 since, named)),
+    (λ none k h.
+        rule k (switchAt n s cs k) (getD cs k 0)
+        ∙ stopper-none n k (switchAt n s cs k) (getD cs k 0) (standing end) (good .filed) .1
+        (λ w. none k h (w .0) (stands-exactly n changes (w .0) .0 (w .1)) (w .2))),
+  )

@@ -1,38 +1,35 @@
 -- The thirteen examples: one test, computed over the whole table, and one law that turns it into the claim of each row.
 use mathlib.Core.Path.{_≡_, refl, ap, ap₂, subst}
 use mathlib.Core.Bool.{Bool, true, false, not, _&&_, false≢true}
-use mathlib.Core.List.{List, [], _∷_}
+use mathlib.Core.List.{List, [], _∷_, _++_}
 use Prim.Native.Nat.{ℕ, zero, suc}
 use borrow.Author.Tests.{eqb-true, eqb-false, leb-false, not-true}
 use lib.Dec.{eqb}
-use lib.ListN.{getD}
+use lib.ListN.{drop, getD, replicate}
 use lib.Count.{ones}
 use Rattle.table.specs.Checks.{Check, Passed, Passed.none, Passed.passes, _notBelow_}
-use Rattle.table.proofs.Checks.{passed-nth, neither}
+use Rattle.table.proofs.Checks.{passed-nth, neither, both-hold}
 use Rattle.fabric.specs.Labels.{size}
 use Rattle.fabric.specs.Walks.{walked}
 use Rattle.tags.specs.declared.Tag.{Tag}
 use Rattle.scheme.specs.Tags.{steered, stepsOf, statesOf, normalTag}
-use Rattle.tags.specs.Entries.{normalFormChecks}
-use Rattle.tags.proofs.Promises.{form-accepts}
+use Rattle.tags.specs.Entries.{tagToStepsChecks, normalFormChecks}
+use Rattle.tags.proofs.Promises.{to-steps-accepts, form-accepts}
 use Rattle.paths.specs.Frontier.{high, through, lesser, advanced}
 use Rattle.book.specs.declared.Book.{Book}
 use Rattle.book.specs.Standing.{standing, stopper}
 use Rattle.standing.specs.Rising.{stands, insert, without, misfiled, littered}
-use Rattle.book.specs.Entries.{opened, linkChecks}
-use Rattle.book.specs.Runs.{run}
+use Rattle.book.specs.declared.Link.{Link}
+use Rattle.book.specs.Entries.{opened, linkChecks, Tests}
+use Rattle.book.specs.Runs.{Change, changeChecks, after, run, AllAccepted}
+use Rattle.book.proofs.Changes.{taken}
 use Rattle.book.proofs.Answers.{link-stopped}
 use Rattle.router.specs.declared.Found.{Found}
 use Rattle.walks.specs.Entries.{stopsOf}
-use Rattle.router.specs.Entries.{routeChecks, Routed}
+use Rattle.router.specs.Entries.{routeChecks, Routed, Routes}
 use Rattle.router.proofs.Promises.{route-passes}
 use Rattle.promises.specs.Examples.{Example, Claim, examples, AllHold}
 use Rattle.promises.proofs.Found.{answerFrom, routeOf, route-of}
-
--- both of two tests
-both : (a b : Bool) → (a && b) ≡ true → (a ≡ true) × (b ≡ true)
-both true b e = (refl, e)
-both false b e = absurd (false≢true e)
 
 passing : List Check → Bool
 passing [] = true
@@ -41,7 +38,7 @@ passing (c ∷ cs) = not (c .holds) && passing cs
 passing-passes : (cs : List Check) → passing cs ≡ true → Passed cs
 unfolding passing
 passing-passes [] e = none
-passing-passes (c ∷ cs) e = let w = both (not (c .holds)) (passing cs) e in passes (not-true (c .holds) (w .0)) (passing-passes cs (w .1))
+passing-passes (c ∷ cs) e = let w = both-hold (not (c .holds)) (passing cs) .0 e in passes (not-true (c .holds) (w .0)) (passing-passes cs (w .1))
 
 sameList : List ℕ → List ℕ → Bool
 sameList [] [] = true
@@ -55,7 +52,7 @@ same-list [] [] e = refl
 same-list [] (y ∷ ys) e = absurd (false≢true e)
 same-list (x ∷ xs) [] e = absurd (false≢true e)
 same-list (x ∷ xs) (y ∷ ys) e =
-    let w = both (eqb x y) (sameList xs ys) e in ap₂ (λ (a : ℕ) (b : List ℕ). a ∷ b) (eqb-true x y (w .0)) (same-list xs ys (w .1))
+    let w = both-hold (eqb x y) (sameList xs ys) .0 e in ap₂ (λ (a : ℕ) (b : List ℕ). a ∷ b) (eqb-true x y (w .0)) (same-list xs ys (w .1))
 
 sameFound : Found → Found → Bool
 sameFound (Found.Tag t) (Found.Tag u) = eqb t u
@@ -76,34 +73,61 @@ same-found (Found.None i) (Found.None j) e = ap Found.None (eqb-true i j e)
 same-found (Found.None i) (Found.Refused r) e = absurd (false≢true e)
 same-found (Found.Refused q) b e = absurd (false≢true e)
 
--- the test of a row
-test : Example → Bool
-test (Example.route n changes s d a) =
-    passing (routeChecks (run changes (opened n)) s d) && sameFound (routeOf (run changes (opened n) .n) (stopsOf (run changes (opened n))) s d) a
-test (Example.normal n s tag form) = passing (normalFormChecks n s tag) && eqb form (normalTag n s (stepsOf n s tag))
-test (Example.steps n s tag cs) = sameList (stepsOf n s tag) cs
-test (Example.stopped n changes i j c) =
-    passing (linkChecks (run changes (opened n)) i j c)
-    && not (eqb (stopper (run changes (opened n) .n) (standing (run changes (opened n))) i j c) 0)
+-- whether every change of a run is accepted
+accepting : List Change → Book → Bool
+accepting [] b = true
+accepting (a ∷ rest) b = passing (changeChecks a b) && accepting rest (after a b)
 
-row : (e : Example) → test e ≡ true → Claim e
-unfolding test
-row (Example.route n changes s d a) e =
-    let b : Book = run changes (opened n) in
-    let w = both (passing (routeChecks b s d)) (sameFound (routeOf (b .n) (stopsOf b) s d) a) e in
+all-accepted : (changes : List Change) (b : Book) → accepting changes b ≡ true → AllAccepted changes b
+unfolding accepting AllAccepted
+all-accepted [] b e = tt
+all-accepted (a ∷ rest) b e =
+    let w = both-hold (passing (changeChecks a b)) (accepting rest (after a b)) .0 e in
+    (taken a b (passing-passes (changeChecks a b) (w .0)) .0, all-accepted rest (after a b) (w .1))
+
+-- the tests of a row: for route and link test, what holds of the book that the changes make
+routing : Book → ℕ → ℕ → Found → Bool
+routing b s d a = passing (routeChecks b s d) && sameFound (routeOf (b .n) (stopsOf b) s d) a
+
+stopping : Book → ℕ → ℕ → ℕ → Bool
+stopping b i j c = passing (linkChecks b i j c) && not (eqb (stopper (b .n) (standing b) i j c) 0)
+
+test : Example → Bool
+test (Example.route n changes s d a) = accepting changes (opened n) && routing (run changes (opened n)) s d a
+test (Example.normal n s tag form) = passing (normalFormChecks n s tag) && eqb form (normalTag n s (stepsOf n s tag))
+test (Example.steps n s tag cs) = passing (tagToStepsChecks n s tag (replicate n 0)) && sameList cs (stepsOf n s tag ++ drop n (replicate n 0))
+test (Example.stopped n changes i j c) = accepting changes (opened n) && stopping (run changes (opened n)) i j c
+
+routes-so : (b : Book) (s d : ℕ) (a : Found) → routing b s d a ≡ true → Routes b s d a
+unfolding routing
+routes-so b s d a e =
+    let w = both-hold (passing (routeChecks b s d)) (sameFound (routeOf (b .n) (stopsOf b) s d) a) .0 e in
     let passed = passing-passes (routeChecks b s d) (w .0) in
     let o = neither (s notBelow size (b .n)) (d notBelow size (b .n)) (passed-nth (routeChecks b s d) 1 passed) in
     route-passes b s d a passed
     (subst (Routed (b .n) (stopsOf b) s d) (same-found (routeOf (b .n) (stopsOf b) s d) a (w .1))
     (route-of (b .n) (stopsOf b) s d (leb-false (size (b .n)) s (o .0)) (leb-false (size (b .n)) d (o .1))))
-row (Example.normal n s tag form) e =
-    let w = both (passing (normalFormChecks n s tag)) (eqb form (normalTag n s (stepsOf n s tag))) e in
-    form-accepts (passing-passes (normalFormChecks n s tag) (w .0)) (eqb-true form (normalTag n s (stepsOf n s tag)) (w .1))
-row (Example.steps n s tag cs) e = same-list (stepsOf n s tag) cs e
-row (Example.stopped n changes i j c) e =
-    let b : Book = run changes (opened n) in
-    let w = both (passing (linkChecks b i j c)) (not (eqb (stopper (b .n) (standing b) i j c) 0)) e in
+
+stopped-so : (b : Book) (i j c : ℕ) → stopping b i j c ≡ true → Tests b i j c Link.Stopped
+unfolding stopping
+stopped-so b i j c e =
+    let w = both-hold (passing (linkChecks b i j c)) (not (eqb (stopper (b .n) (standing b) i j c) 0)) .0 e in
     link-stopped b i j c refl (eqb-false (stopper (b .n) (standing b) i j c) 0 (not-true _ (w .1))) (passing-passes (linkChecks b i j c) (w .0))
+
+row : (e : Example) → test e ≡ true → Claim e
+unfolding test
+row (Example.route n changes s d a) e =
+    let w = both-hold (accepting changes (opened n)) (routing (run changes (opened n)) s d a) .0 e in
+    (all-accepted changes (opened n) (w .0), routes-so (run changes (opened n)) s d a (w .1))
+row (Example.normal n s tag form) e =
+    let w = both-hold (passing (normalFormChecks n s tag)) (eqb form (normalTag n s (stepsOf n s tag))) .0 e in
+    form-accepts (passing-passes (normalFormChecks n s tag) (w .0)) (eqb-true form (normalTag n s (stepsOf n s tag)) (w .1))
+row (Example.steps n s tag cs) e =
+    let w = both-hold (passing (tagToStepsChecks n s tag (replicate n 0))) (sameList cs (stepsOf n s tag ++ drop n (replicate n 0))) .0 e in
+    to-steps-accepts (passing-passes (tagToStepsChecks n s tag (replicate n 0)) (w .0)) (same-list cs (stepsOf n s tag ++ drop n (replicate n 0)) (w .1))
+row (Example.stopped n changes i j c) e =
+    let w = both-hold (accepting changes (opened n)) (stopping (run changes (opened n)) i j c) .0 e in
+    (all-accepted changes (opened n) (w .0), stopped-so (run changes (opened n)) i j c (w .1))
 
 every : List Example → Bool
 every [] = true
@@ -112,10 +136,10 @@ every (e ∷ es) = test e && every es
 all-rows : (es : List Example) → every es ≡ true → AllHold es
 unfolding every AllHold
 all-rows [] e = tt
-all-rows (x ∷ es) e = let w = both (test x) (every es) e in (row x (w .0), all-rows es (w .1))
+all-rows (x ∷ es) e = let w = both-hold (test x) (every es) .0 e in (row x (w .0), all-rows es (w .1))
 
 tested : every examples ≡ true
-unfolding every test passing sameFound sameList run stopper stands insert without misfiled littered ones steered statesOf walked high through lesser advanced answerFrom
+unfolding every test routing stopping accepting passing sameFound sameList run stopper stands insert without misfiled littered ones steered statesOf walked high through lesser advanced answerFrom
 tested = refl
 
 -- the thirteen examples

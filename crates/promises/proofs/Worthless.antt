@@ -26,8 +26,8 @@ use Rattle.notices.specs.Targets.{names}
 use Rattle.book.specs.Standing.{standing, unused, stopper, unsound}
 use Rattle.standing.specs.Rising.{stands, insert, without, misfiled, littered}
 use Rattle.book.specs.Entries.{answerSays, linkSays, opened, fileChecks, withdrawChecks, linkChecks, filed, withdrawn, Files, Tests}
-use Rattle.book.specs.Runs.{run}
-use Rattle.standing.proofs.Members.{insert-length, without-keeps}
+use Rattle.book.specs.Runs.{Change, after, run}
+use Rattle.standing.proofs.Members.{without-keeps}
 use Rattle.book.proofs.Changes.{standing-of}
 use Rattle.standing.proofs.Filings.{filed-if}
 use Rattle.book.proofs.Stoppers.{stopper-none}
@@ -37,7 +37,7 @@ use Rattle.walks.specs.Entries.{stopsOf}
 use Rattle.router.specs.Entries.{routeChecks, Routed, Routes}
 use Rattle.router.proofs.Entries.{route-once}
 use Rattle.promises.specs.Examples.{links}
-use Rattle.promises.specs.Controllers.{Controller, Keeps, SaysElevenAlways, GivesTagZeroAlways, InventsAStage, RefusesEveryFiling, FilesNothing, StoresTheFirstOnly, OpensForBoth, PlusAndMinusOneLink, LooksOnlyWhereItStands, GivesUp}
+use Rattle.promises.specs.Controllers.{Controller, Keeps, SaysElevenAlways, GivesTagZeroAlways, InventsAStage, RefusesEveryFiling, SameLinks, FilesNothing, StoresTheFirstOnly, OpensForBoth, PlusAndMinusOneLink, LooksOnlyWhereItStands, GivesUp}
 use Rattle.promises.proofs.Examples.{row-holds}
 
 -- a route that names a stage has passed 16 and 10
@@ -47,7 +47,7 @@ none-routed b s d i p = ⊎-elim (λ g. let e = p .refuses (g .0) (g .1) in let 
 tag-passed : (b : Book) (s d t : ℕ) → Routes b s d (Found.Tag t) → Passed (routeChecks b s d)
 tag-passed b s d t p = ⊎-elim (λ g. let e = p .refuses (g .0) (g .1) in let z : _≡_ {A = ℕ} 0 1 = cc in absurd (omega arith)) (λ w. w) (given-or-passed (routeChecks b s d))
 
--- the empty book of example 1, that of example 2, and a second notice on the same link
+-- the empty book of example 1, that of example 2, and a second notice, on another link
 abbrev empty : Book
 empty = run [] (opened 3)
 
@@ -55,15 +55,7 @@ abbrev one : Book
 one = run (links 1 0 1 4 ∷ []) (opened 3)
 
 abbrev second : Notice
-second = record { number = 2; target = Links 0 1 4 }
-
--- an accepted filing changes what stands
-filing-changes : (b : Book) (x : Notice) (r : Kept) → Files b x r → r .answer ≡ Answer.Done → r .book ≡ b → ⊥
-filing-changes b x r p done same =
-    let passed : Passed (fileChecks b x) = accepted-passed (fileChecks b x) [] [] (ap answerSays (sym done) ∙ p .says) in
-    let made : b ≡ filed b x = sym same ∙ p .leaves ∙ passed-accepts (λ k. b) (filed b x) (fileChecks b x) passed in
-    let e : length (standing b) ≡ suc (length (standing b)) = ap (λ (c : Book). length (standing c)) made ∙ ap length (standing-of (b .n) (insert x (standing b))) ∙ insert-length x (standing b) in
-    omega arith
+second = record { number = 2; target = Links 1 2 4 }
 
 -- where the link test says clear, no standing notice names the link
 clear-names-none : (b : Book) (i j code : ℕ) → Tests b i j code Link.Clear → (x : Notice) → List·Memᴰ x (standing b) → names (b .n) (x .target) i j code ≡ true → ⊥
@@ -83,7 +75,7 @@ module _ (c : Controller) (keeps : Keeps c) where
   -- "one that says 11 to every route"
   pub not-eleven-always : SaysElevenAlways c → ⊥
   not-eleven-always says =
-      let right = row-holds 0 in
+      let right = row-holds 0 .1 in
       let e = says empty 1 0 (tag-passed empty 1 0 0 right) in
       let f : Found.None (e .0) ≡ Found.Tag 0 = sym (e .1) ∙ route-once empty 1 0 _ _ (keeps .routes empty 1 0) right in
       let z : _≡_ {A = ℕ} 0 1 = cc in
@@ -93,7 +85,7 @@ module _ (c : Controller) (keeps : Keeps c) where
   pub not-tag-zero-always : GivesTagZeroAlways c → ⊥
   not-tag-zero-always gives =
       let b : Book = run [] (opened 1) in
-      let e : _≡_ {A = ℕ} 1 0 = gives b 0 1 1 (route-once b 0 1 _ _ (keeps .routes b 0 1) (row-holds 8)) in
+      let e : _≡_ {A = ℕ} 1 0 = gives b 0 1 1 (route-once b 0 1 _ _ (keeps .routes b 0 1) (row-holds 8 .1)) in
       omega arith
 
   -- "one that names an invented stage"
@@ -110,21 +102,29 @@ module _ (c : Controller) (keeps : Keeps c) where
       let z : _≡_ {A = ℕ} 0 1 = cc in
       omega arith
 
-  accepts : (b : Book) (x : Notice) → answerSays (c .file b x .answer) ≡ accepted [] → c .file b x .answer ≡ Answer.Done
-  accepts b x e = answer-tells (c .file b x .answer) Answer.Done e
+  -- a filing that is accepted and names a clear link stops it
+  shows : (b : Book) (x : Notice) (i j code : ℕ)
+      → answerSays (c .file b x .answer) ≡ accepted [] → linkSays (c .link b i j code) ≡ accepted (0 ∷ [])
+      → linkSays (c .link (after (Change.file x) b) i j code) ≡ accepted (1 ∷ []) → SameLinks c (c .file b x .book) b → ⊥
+  shows b x i j code done clear stopped same =
+      let e : linkSays (c .link (c .file b x .book) i j code) ≡ accepted (1 ∷ []) = ap (λ (d : Book). linkSays (c .link d i j code)) (keeps .files b x .leaves) ∙ stopped in
+      let f : accepted (1 ∷ []) ≡ accepted (0 ∷ []) = sym e ∙ ap linkSays (same i j code) ∙ clear in
+      let z : _≡_ {A = ℕ} 1 0 = cc in
+      omega arith
 
   -- "one whose filings change nothing"
   pub not-filing-nothing : FilesNothing c → ⊥
-  unfolding run stands insert misfiled littered
+  unfolding run stands insert misfiled littered stopper
   not-filing-nothing nothing =
-      filing-changes empty second (c .file empty second) (keeps .files empty second) (accepts empty second (keeps .files empty second .says)) (nothing empty second)
+      shows empty second 1 2 2 (keeps .files empty second .says) (keeps .tests empty 1 2 2 .says) (keeps .tests (after (Change.file second) empty) 1 2 2 .says) (nothing empty second)
 
   -- "one that stores the first filing and merely acknowledges later ones"
   pub not-the-first-only : StoresTheFirstOnly c → ⊥
-  unfolding run stands insert misfiled littered
+  unfolding run stands insert misfiled littered stopper
   not-the-first-only first =
-      let done = accepts one second (keeps .files one second .says) in
-      filing-changes one second (c .file one second) (keeps .files one second) done (first one second (omega arith) done)
+      let says = keeps .files one second .says in
+      shows one second 1 2 2 says (keeps .tests one 1 2 2 .says) (keeps .tests (after (Change.file second) one) 1 2 2 .says)
+      (first one second (omega arith) (answer-tells (c .file one second .answer) Answer.Done says))
 
   -- "Withdrawal clears bits of a map, opening a link that another notice still names."
   pub not-opening-for-both : OpensForBoth c → ⊥
@@ -158,8 +158,8 @@ module _ (c : Controller) (keeps : Keeps c) where
   unfolding run stands insert misfiled littered stopper steered walked
   not-looking-only-where-it-stands w =
       let b : Book = run (links 1 1 0 1 ∷ []) (opened 3) in
-      let minus : _≡_ {A = ℕ} 2 (w .choose 3 1 0 0 1 0 0 0) = w .chosen empty 1 0 0 0 (route-once empty 1 0 _ _ (keeps .routes empty 1 0) (row-holds 0)) (omega arith) in
-      let plus : _≡_ {A = ℕ} 1 (w .choose 3 1 0 0 1 0 0 0) = w .chosen b 1 0 8 0 (route-once b 1 0 _ _ (keeps .routes b 1 0) (row-holds 5)) (omega arith) in
+      let minus : _≡_ {A = ℕ} 2 (w .choose 3 1 0 0 1 0 0 0) = w .chosen empty 1 0 0 0 (route-once empty 1 0 _ _ (keeps .routes empty 1 0) (row-holds 0 .1)) (omega arith) in
+      let plus : _≡_ {A = ℕ} 1 (w .choose 3 1 0 0 1 0 0 0) = w .chosen b 1 0 8 0 (route-once b 1 0 _ _ (keeps .routes b 1 0) (row-holds 5 .1)) (omega arith) in
       let z : _≡_ {A = ℕ} 2 1 = minus ∙ sym plus in
       omega arith
 

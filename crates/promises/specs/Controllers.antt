@@ -29,7 +29,7 @@ pub record Controller : Type 0 where
   pub link : Book → ℕ → ℕ → ℕ → Link
   pub route : Book → ℕ → ℕ → Found
 
--- its answers are those that the entries promise
+-- its answers are those that the entries promise. `some-controller-keeps` says that there is such a controller.
 pub record Keeps (c : Controller) : Type 0 where
   pub files : (b : Book) (x : Notice) → Files b x (c .file b x)
   pub withdraws : (b : Book) (k : ℕ) → Withdraws b k (c .withdraw b k)
@@ -57,13 +57,17 @@ pub record InventsAStage (c : Controller) : Type 0 where
 abbrev pub RefusesEveryFiling : Controller → Type 0
 RefusesEveryFiling c = (b : Book) (x : Notice) → (why : Refusal) × (c .file b x .answer ≡ Answer.Refused why)
 
+-- whether every link tests alike in two books
+abbrev pub SameLinks : Controller → Book → Book → Type 0
+SameLinks c a b = (i j code : ℕ) → c .link a i j code ≡ c .link b i j code
+
 -- "one whose filings change nothing"
 abbrev pub FilesNothing : Controller → Type 0
-FilesNothing c = (b : Book) (x : Notice) → c .file b x .book ≡ b
+FilesNothing c = (b : Book) (x : Notice) → SameLinks c (c .file b x .book) b
 
 -- "one that stores the first filing and merely acknowledges later ones"
 abbrev pub StoresTheFirstOnly : Controller → Type 0
-StoresTheFirstOnly c = (b : Book) (x : Notice) → 0 < length (standing b) → c .file b x .answer ≡ Answer.Done → c .file b x .book ≡ b
+StoresTheFirstOnly c = (b : Book) (x : Notice) → 0 < length (standing b) → c .file b x .answer ≡ Answer.Done → SameLinks c (c .file b x .book) b
 
 -- "Withdrawal .. opening a link that another notice still names."
 pub record OpensForBoth (c : Controller) : Type 0 where

@@ -2,13 +2,13 @@
 use mathlib.Core.Path.{_≡_, refl, sym, ap, ap₂, subst, _∙_}
 use mathlib.Core.Bool.{Bool, false, _||_}
 use mathlib.Core.List.{List, [], _∷_}
-use mathlib.Core.Logic.{⊎-elim}
+use mathlib.Core.Logic.{⊎-elim, _↔_}
 use Prim.Native.Nat.{ℕ, suc, _<_}
 use native.Mathlib.Omega.{arith}
 use borrow.Author.Tests.{leb-false, lt-leb}
 use lib.ListN.{getD}
 use Rattle.table.specs.Numbers.{numberOf}
-use Rattle.table.specs.Reply.{refused}
+use Rattle.table.specs.Reply.{Reply, refused}
 use Rattle.table.specs.Checks.{Given, Passed, Passed.none, Passed.passes, _when_, _notBelow_}
 use Rattle.table.proofs.Numbers.{number-tells}
 use Rattle.table.proofs.Checks.{given-or-passed, passed-nth, neither}
@@ -19,7 +19,7 @@ use Rattle.scheme.proofs.NormalTags.{steps-come-back, normal-is-tag}
 use Rattle.scheme.proofs.Steps.{tag-arrives}
 use Rattle.book.specs.declared.Book.{Book}
 use Rattle.book.specs.Standing.{unsound}
-use Rattle.paths.specs.Clear.{Rule, Clear, ClearPath, Onward}
+use Rattle.paths.specs.Clear.{Rule, Alike, Clear, ClearPath, Onward, StageNamed}
 use Rattle.paths.proofs.Order.{first-once}
 use Rattle.paths.proofs.Walks.{stage-once}
 use Rattle.walks.proofs.Entries.{walked-once}
@@ -74,6 +74,19 @@ module _ (b : Book) (s d : ℕ) (passed : Passed (routeChecks b s d)) (a : Found
       go (Found.None i) w = (i, refl)
       go (Found.Refused r) w = absurd w
 
+  -- 11: "no clear path, with the stage"
+  pub eleven-exactly : (i : ℕ) → (routeSays a ≡ Reply.refusedWith 11 (i ∷ [])) ↔ (((cs : List ℕ) → ClearPath (b .n) (stopsOf b) s d cs → ⊥) × StageNamed (b .n) (stopsOf b) s d i)
+  eleven-exactly i = (told a (answers .routes passed), holds)
+    where
+      told : (x : Found) → Routed (b .n) (stopsOf b) s d x → routeSays x ≡ Reply.refusedWith 11 (i ∷ [])
+          → ((cs : List ℕ) → ClearPath (b .n) (stopsOf b) s d cs → ⊥) × StageNamed (b .n) (stopsOf b) s d i
+      told (Found.Tag t) w e = let z : _≡_ {A = ℕ} 0 1 = cc in absurd (omega arith)
+      told (Found.None j) w e = let z : j ≡ i = cc in subst (λ (k : ℕ). Routed (b .n) (stopsOf b) s d (Found.None k)) z w
+      told (Found.Refused r) w e = absurd w
+
+      holds : ((cs : List ℕ) → ClearPath (b .n) (stopsOf b) s d cs → ⊥) × StageNamed (b .n) (stopsOf b) s d i → routeSays a ≡ Reply.refusedWith 11 (i ∷ [])
+      holds w = ap routeSays (routed-once (b .n) (stopsOf b) s d a (Found.None i) (answers .routes passed) w)
+
 -- walking the tag that a route answered says clear
 pub route-walks-clear : (b : Book) (s d t : ℕ) → Passed (routeChecks b s d) → Routes b s d (Found.Tag t) → (a : Ended) → Walks b s t a → a ≡ Ended.Clear
 route-walks-clear b s d t passed answers a walks =
@@ -90,9 +103,6 @@ route-walks-clear b s d t passed answers a walks =
     walked-once n (stopsOf b) s t a Ended.Clear (walks .walks ok) clear
 
 -- a route depends on a book only through which links are stopped
-abbrev pub Alike : Rule → Rule → Type 0
-Alike f g = (i j c : ℕ) → (f i j c ≡ 0 → g i j c ≡ 0) × (g i j c ≡ 0 → f i j c ≡ 0)
-
 module _ (n : ℕ) (s d : ℕ) where
   clear-alike : (f g : Rule) → Alike f g → (cs : List ℕ) → ClearPath n f s d cs → ClearPath n g s d cs
   clear-alike f g same cs p = record { path = p .path; clear = λ k h. same k (switchAt n s cs k) (getD cs k 0) .0 (p .clear k h) }

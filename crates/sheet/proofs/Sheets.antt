@@ -16,7 +16,7 @@ use Rattle.sheet.specs.declared.Header.{Header}
 use Rattle.sheet.specs.declared.There.{There}
 use Rattle.actions.specs.Format.{word}
 use Rattle.sheet.specs.Format.{headerBytes, sizeIn, countIn, placeOf}
-use Rattle.sheet.specs.Entries.{headerSays, thereSays, wrongMark, ReadsHeader, HasAction, partOf, thereChecks}
+use Rattle.sheet.specs.Entries.{headerSays, thereSays, wrongMark, ReadsHeader, HasAction, startOf, partOf, thereChecks}
 use Rattle.actions.proofs.Layouts.{word-read, high-written, low-written, spells}
 use Rattle.sheet.proofs.Promises.{there-fits, there-passed}
 
@@ -42,6 +42,9 @@ header-once sheet a b p q = header-tells a b (p .says ∙ sym (q .says))
 
 pub there-once : (sheet : List ℕ) (k : ℕ) (a b : There) → HasAction sheet k a → HasAction sheet k b → a ≡ b
 there-once sheet k a b p q = there-tells a b (p .says ∙ sym (q .says))
+
+pub part-once : (sheet : List ℕ) (k : ℕ) (x y : List ℕ) (i j : ℕ) → (x ≡ partOf sheet k) × (i ≡ startOf sheet k) → (y ≡ partOf sheet k) × (j ≡ startOf sheet k) → (x ≡ y) × (i ≡ j)
+part-once sheet k x y i j p q = (p .0 ∙ sym (q .0), p .1 ∙ sym (q .1))
 
 -- "Header: the bytes `FSH`, version 1 (16 bits), n (8), action count (16).": what is written is read,
 pub header-read : (n count : ℕ) (rest : List ℕ) → (sizeIn (headerBytes n count ++ rest) ≡ n) × (countIn (headerBytes n count ++ rest) ≡ count) × (wrongMark (headerBytes n count ++ rest) ≡ false)

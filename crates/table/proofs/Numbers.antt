@@ -9,7 +9,7 @@ use Rattle.table.specs.declared.Refusal.the-variants.{Size, Layout, Zero
 use Rattle.table.specs.Numbers.{numberOf}
 
 -- the refusals by their numbers; 0 and 11 have none of their own
-abbrev byNumber : ℕ → Refusal
+abbrev pub byNumber : ℕ → Refusal
 byNumber k =
     getD
     (Size ∷ Size ∷ Layout ∷ Zero ∷ Place ∷ Field ∷ Wide ∷ Stands ∷ Full ∷ Absent ∷ Label ∷ Label ∷ Tag ∷ Room ∷ Mark ∷ Length ∷ Book ∷ [])

@@ -1,16 +1,19 @@
 -- Theorems over walk: what its answers say, and that its promise leaves no second answer.
-use mathlib.Core.Path.{_≡_, refl, ap}
-use mathlib.Core.List.{List}
-use mathlib.Core.Logic.{⊎-elim}
+use mathlib.Core.Path.{_≡_, refl, ap, subst}
+use mathlib.Core.List.{List, [], _∷_}
+use mathlib.Core.Logic.{⊎-elim, _↔_}
 use Prim.Native.Nat.{ℕ, _<_}
 use native.Mathlib.Decide.{decLt}
 use native.Mathlib.Omega.{arith}
+use borrow.Author.Tests.{leb-false}
 use Rattle.table.specs.Numbers.{numberOf}
-use Rattle.table.specs.Reply.{refused}
+use Rattle.table.specs.Reply.{Reply, refused}
+use Rattle.table.specs.Checks.{Passed}
 use Rattle.table.proofs.Numbers.{number-tells, below-seventeen}
-use Rattle.table.proofs.Checks.{given-or-passed}
+use Rattle.table.proofs.Checks.{given-or-passed, passed-nth}
+use Rattle.fabric.specs.Labels.{size}
 use Rattle.scheme.specs.Tags.{stepsOf}
-use Rattle.scheme.proofs.Steps.{steps-of-tag}
+use Rattle.scheme.proofs.Steps.{steps-of-tag, tag-arrives}
 use Rattle.book.specs.declared.Book.{Book}
 use Rattle.paths.specs.Clear.{Rule, Clear}
 use Rattle.walks.specs.declared.Ended.{Ended}
@@ -64,3 +67,28 @@ walk-once b s tag x y p q =
     (λ g. ended-tells x y (g .0) (p .refuses (g .0) (g .1)) (q .refuses (g .0) (g .1)))
     (λ w. walked-once (b .n) (stopsOf b) s tag x y (p .walks w) (q .walks w))
     (given-or-passed (walkChecks b s tag))
+
+-- what a walk's answer says, past 16, 10 and 12
+module _ (b : Book) (s tag : ℕ) (passed : Passed (walkChecks b s tag)) (a : Ended) (answers : Walks b s tag a) where
+  -- 11: "in a walk, the first stage whose link is stopped"
+  pub eleven-exactly : (i : ℕ) → (walkSays a ≡ Reply.refusedWith 11 (i ∷ [])) ↔ FirstStopped (b .n) (stopsOf b) s (stepsOf (b .n) s tag) i
+  eleven-exactly i = (
+    told a (answers .walks passed),
+    λ w. ap walkSays (walked-once (b .n) (stopsOf b) s tag a (Ended.Stopped i) (answers .walks passed) w),
+  )
+    where
+      told : (x : Ended) → Walked (b .n) (stopsOf b) s tag x → walkSays x ≡ Reply.refusedWith 11 (i ∷ []) → FirstStopped (b .n) (stopsOf b) s (stepsOf (b .n) s tag) i
+      told Ended.Clear w e = let z : _≡_ {A = ℕ} 0 1 = cc in absurd (omega arith)
+      told (Ended.Stopped j) w e = let z : j ≡ i = cc in subst (FirstStopped (b .n) (stopsOf b) s (stepsOf (b .n) s tag)) z w
+      told Ended.Astray w e = let z : _≡_ {A = ℕ} 0 1 = cc in absurd (omega arith)
+      told (Ended.Refused r) w e = absurd w
+
+  -- 17 is never given: "a walk ended away from its tag's destination", and none does (document 000, theorem 3.1)
+  pub seventeen-never : walkSays a ≡ refused 17 → ⊥
+  seventeen-never = told a (answers .walks passed)
+    where
+      told : (x : Ended) → Walked (b .n) (stopsOf b) s tag x → walkSays x ≡ refused 17 → ⊥
+      told Ended.Clear w e = let z : _≡_ {A = ℕ} 0 1 = cc in omega arith
+      told (Ended.Stopped j) w e = let z : _≡_ {A = ℕ} 0 1 = cc in omega arith
+      told Ended.Astray w e = w .1 (tag-arrives (b .n) s tag (leb-false (size (b .n)) s (passed-nth (walkChecks b s tag) 1 passed)))
+      told (Ended.Refused r) w e = absurd w

@@ -3,14 +3,14 @@ use mathlib.Core.Path.{_≡_, refl, ap, _∙_}
 use mathlib.Core.Bool.{false}
 use mathlib.Core.List.{List, [], _∷_, _++_}
 use Prim.Native.Nat.{ℕ, zero, suc, _+_, _-_, _*_, _/_, _%_, _^_, _≤_, _<_}
-use native.Mathlib.Nat.{pow-suc}
+use native.Mathlib.Nat.{pow-suc, zero-add}
 use native.Mathlib.Decide.{decLt}
 use native.Mathlib.Omega.{arith}
 use borrow.Author.Tests.{lt-ltb, le-ltb}
 use lib.ListN.{length, getD, length-append}
 use Rattle.fabric.specs.Labels.{bit}
 use Rattle.table.specs.Checks.{_below_}
-use Rattle.words.specs.Words.{decimalIn, decimal, bitsFrom}
+use Rattle.words.specs.Words.{decimalIn, decimal, bitsFrom, tagBits}
 
 -- more digits than there are make no difference
 most-any : (f g x : ℕ) → x < f → x < g → decimalIn f x ≡ decimalIn g x
@@ -66,6 +66,10 @@ bits-at i zero x k h = absurd (omega arith)
 bits-at i (suc left) x zero h = ap (λ (m : ℕ). 48 + bit m x) {x = i} {y = i + 0} (omega arith)
 bits-at i (suc left) x (suc k) h =
     bits-at (suc i) left x k (omega arith) ∙ ap (λ (m : ℕ). 48 + bit m x) {x = suc i + k} {y = i + suc k} (omega arith)
+
+-- "`TAG` with bits 0 to 2n-1 in that order"
+pub tag-bits-at : (n tag : ℕ) → (length (tagBits n tag) ≡ 2 * n) × ((k : ℕ) → k < 2 * n → getD (tagBits n tag) k 0 ≡ 48 + bit k tag)
+tag-bits-at n tag = (length-bits 0 (2 * n) tag, λ k h. bits-at 0 (2 * n) tag k h ∙ ap (λ (i : ℕ). 48 + bit i tag) (zero-add k))
 
 -- what digits read as, after a number that was read before them
 abbrev pub readAfter : ℕ → List ℕ → ℕ

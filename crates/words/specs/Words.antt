@@ -12,7 +12,8 @@ unfoldable pub decimalIn : ℕ → ℕ → List ℕ
 decimalIn zero x = []
 decimalIn (suc most) x = cond (x below 10) ((48 + x) ∷ []) (decimalIn most (x / 10) ++ (48 + x % 10) ∷ [])
 
--- x has at most x + 1 digits: `decimal-reads` says that they read as x, and `no-leading-zero` that none is spare
+-- x has at most x + 1 digits. `decimal-one` and `decimal-more` say that below 10 it is the one digit, and otherwise the digits of a
+-- tenth of it and then its last digit; `decimal-reads` that they read as x, `no-leading-zero` that the first of several is not 0.
 abbrev pub decimal : ℕ → List ℕ
 decimal x = decimalIn (suc x) x
 
