@@ -1,4 +1,4 @@
--- Document 01, 'What the build covers' and 'Fabric': sizes and labels.
+-- Document 01, 'What the build covers', 'Fabric' and 'Tags and steps': sizes, labels and their bits.
 use mathlib.Core.Path.{_≡_}
 use mathlib.Core.Bool.{Bool, _||_}
 use Prim.Native.Nat.{ℕ, _^_, _/_, _%_}

@@ -14,7 +14,7 @@ use Rattle.table.specs.Checks.{_when_, _below_, _notBelow_, Given, Given.here, 
 use Rattle.table.proofs.Checks.{given-refuses, passed-accepts, accepted-passed, refused-given, accepted-says, given-before, given-after, passed-both, passed-nth, neither}
 use Rattle.sheet.specs.declared.Header.{Header}
 use Rattle.sheet.specs.declared.There.{There}
-use Rattle.sheet.specs.Format.{sizeIn, countIn, placeOf}
+use Rattle.sheet.specs.Format.{sizeIn, countIn, bytesBefore}
 use Rattle.sheet.specs.Entries.{headerChecks, ReadsHeader, thereChecks, HasAction, startOf, partOf}
 
 module _ {sheet : List ℕ} where
@@ -74,27 +74,27 @@ module _ {sheet : List ℕ} {k : ℕ} where
   there-given {why} r = refused-given (thereChecks sheet k) [] (numberOf why) (r .says)
 
   -- an action that is there lies within the sheet
-  pub there-fits : {t : There} → HasAction sheet k t → t ≡ There.Yes → (k < 4096) × (placeOf k + 10 ≤ length sheet)
+  pub there-fits : {t : There} → HasAction sheet k t → t ≡ There.Yes → (k < 4096) × (bytesBefore k + 10 ≤ length sheet)
   there-fits r e =
       let p = there-passed (rw e at r) in
       let early : k < countIn sheet = leb-false (countIn sheet) k (passed-nth (thereChecks sheet k) 3 p) in
-      let len = neither (4096 below countIn sheet) (not (eqb (length sheet) (placeOf (countIn sheet)))) (passed-nth (thereChecks sheet k) 2 p) in
+      let len = neither (4096 below countIn sheet) (not (eqb (length sheet) (bytesBefore (countIn sheet)))) (passed-nth (thereChecks sheet k) 2 p) in
       let few : countIn sheet ≤ 4096 = ltb-false 4096 (countIn sheet) (len .0) in
-      let same : length sheet ≡ placeOf (countIn sheet) = eqb-true (length sheet) (placeOf (countIn sheet)) (not-false (eqb (length sheet) (placeOf (countIn sheet))) (len .1)) in
+      let same : length sheet ≡ bytesBefore (countIn sheet) = eqb-true (length sheet) (bytesBefore (countIn sheet)) (not-false (eqb (length sheet) (bytesBefore (countIn sheet))) (len .1)) in
       (omega arith, omega arith)
 
-  pub part-there : {t : There} → HasAction sheet k t → t ≡ There.Yes → take (placeOf k + 10 - placeOf k) (drop (placeOf k) sheet) ≡ partOf sheet k
+  pub part-there : {t : There} → HasAction sheet k t → t ≡ There.Yes → take (bytesBefore k + 10 - bytesBefore k) (drop (bytesBefore k) sheet) ≡ partOf sheet k
   part-there r e =
-      ap (λ (j : ℕ). take j (drop (placeOf k) sheet)) {x = placeOf k + 10 - placeOf k} {y = 10} (omega arith)
-      ∙ sym (passed-accepts (λ j. []) (take 10 (drop (placeOf k) sheet)) (thereChecks sheet k) (there-passed (rw e at r)))
+      ap (λ (j : ℕ). take j (drop (bytesBefore k) sheet)) {x = bytesBefore k + 10 - bytesBefore k} {y = 10} (omega arith)
+      ∙ sym (passed-accepts (λ j. []) (take 10 (drop (bytesBefore k) sheet)) (thereChecks sheet k) (there-passed (rw e at r)))
 
   pub part-nowhere : {t : There} {why : Refusal} → HasAction sheet k t → t ≡ There.Refused why → [] ≡ partOf sheet k
   part-nowhere {t} {why} r e =
-      sym (given-refuses (λ j. []) (take 10 (drop (placeOf k) sheet)) (numberOf why) (thereChecks sheet k) (there-given {why = why} (rw e at r)))
+      sym (given-refuses (λ j. []) (take 10 (drop (bytesBefore k) sheet)) (numberOf why) (thereChecks sheet k) (there-given {why = why} (rw e at r)))
 
   -- and where the part starts
-  pub start-there : {t : There} → HasAction sheet k t → t ≡ There.Yes → placeOf k ≡ startOf sheet k
-  start-there r e = sym (passed-accepts (λ j. 0) (placeOf k) (thereChecks sheet k) (there-passed (rw e at r)))
+  pub start-there : {t : There} → HasAction sheet k t → t ≡ There.Yes → bytesBefore k ≡ startOf sheet k
+  start-there r e = sym (passed-accepts (λ j. 0) (bytesBefore k) (thereChecks sheet k) (there-passed (rw e at r)))
 
   pub start-nowhere : {t : There} {why : Refusal} → HasAction sheet k t → t ≡ There.Refused why → 0 ≡ startOf sheet k
-  start-nowhere {t} {why} r e = sym (given-refuses (λ j. 0) (placeOf k) (numberOf why) (thereChecks sheet k) (there-given {why = why} (rw e at r)))
+  start-nowhere {t} {why} r e = sym (given-refuses (λ j. 0) (bytesBefore k) (numberOf why) (thereChecks sheet k) (there-given {why = why} (rw e at r)))

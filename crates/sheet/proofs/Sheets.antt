@@ -15,7 +15,7 @@ use Rattle.table.proofs.Checks.{passed-accepts, neither}
 use Rattle.sheet.specs.declared.Header.{Header}
 use Rattle.sheet.specs.declared.There.{There}
 use Rattle.actions.specs.Format.{word}
-use Rattle.sheet.specs.Format.{headerBytes, sizeIn, countIn, placeOf}
+use Rattle.sheet.specs.Format.{headerBytes, sizeIn, countIn, bytesBefore}
 use Rattle.sheet.specs.Entries.{headerSays, thereSays, wrongMark, ReadsHeader, HasAction, startOf, partOf, thereChecks}
 use Rattle.actions.proofs.Layouts.{word-read, high-written, low-written, spells}
 use Rattle.sheet.proofs.Promises.{there-fits, there-passed}
@@ -77,6 +77,6 @@ header-written sheet bytes right =
 pub part-is-ten : (sheet : List ℕ) (k : ℕ) → HasAction sheet k There.Yes → length (partOf sheet k) ≡ 10
 part-is-ten sheet k r =
     let fits = there-fits r refl .1 in
-    let long : 10 ≤ length (drop (placeOf k) sheet) = simp length-drop (omega arith) in
-    let e : take 10 (drop (placeOf k) sheet) ≡ partOf sheet k = sym (passed-accepts (λ j. []) (take 10 (drop (placeOf k) sheet)) (thereChecks sheet k) (there-passed r)) in
-    ap length (sym e) ∙ length-take-le 10 (drop (placeOf k) sheet) long
+    let long : 10 ≤ length (drop (bytesBefore k) sheet) = simp length-drop (omega arith) in
+    let e : take 10 (drop (bytesBefore k) sheet) ≡ partOf sheet k = sym (passed-accepts (λ j. []) (take 10 (drop (bytesBefore k) sheet)) (thereChecks sheet k) (there-passed r)) in
+    ap length (sym e) ∙ length-take-le 10 (drop (bytesBefore k) sheet) long

@@ -13,7 +13,7 @@ use Rattle.fabric.specs.Labels.{outsideSizes}
 use Rattle.sheet.specs.declared.Header.{Header}
 use Rattle.sheet.specs.declared.There.{There}
 use Rattle.actions.specs.Format.{word}
-use Rattle.sheet.specs.Format.{sizeIn, countIn, placeOf}
+use Rattle.sheet.specs.Format.{sizeIn, countIn, bytesBefore}
 
 -- the number and values of each answer
 abbrev pub headerSays : Header → Reply
@@ -35,7 +35,7 @@ wrongMark sheet =
 
 -- 15: "action count above 4,096, or wrong sheet length"
 abbrev pub wrongLength : List ℕ → Bool
-wrongLength sheet = 4096 below countIn sheet || not (eqb (length sheet) (placeOf (countIn sheet)))
+wrongLength sheet = 4096 below countIn sheet || not (eqb (length sheet) (bytesBefore (countIn sheet)))
 
 -- "sheet header: 14, 1, 15; otherwise it answers n and the count."
 abbrev pub headerChecks : List ℕ → List Check
@@ -56,7 +56,7 @@ pub record HasAction (sheet : List ℕ) (k : ℕ) (answer : There) : Type 0 wher
 -- "A second entry returns a part only: where the first accepts, action k is handed back as those ten bytes of the sheet
 -- themselves; otherwise the empty part at the sheet's front.": where in the sheet the part starts, and its bytes
 abbrev pub startOf : List ℕ → ℕ → ℕ
-startOf sheet k = checked (thereChecks sheet k) (λ j. 0) (placeOf k)
+startOf sheet k = checked (thereChecks sheet k) (λ j. 0) (bytesBefore k)
 
 abbrev pub partOf : List ℕ → ℕ → List ℕ
-partOf sheet k = checked (thereChecks sheet k) (λ j. take 0 (drop 0 sheet)) (take 10 (drop (placeOf k) sheet))
+partOf sheet k = checked (thereChecks sheet k) (λ j. []) (take 10 (drop (bytesBefore k) sheet))

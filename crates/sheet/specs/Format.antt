@@ -15,6 +15,6 @@ sizeIn sheet = getD sheet 5 0
 abbrev pub countIn : List ℕ → ℕ
 countIn sheet = word sheet 6
 
--- "Length is exactly 8 + 10 x count"; action k, counted from 0, starts there
-abbrev pub placeOf : ℕ → ℕ
-placeOf k = 8 + 10 * k
+-- "Length is exactly 8 + 10 x count": so many bytes lie before action k, counted from 0, and so many has a sheet of k actions
+abbrev pub bytesBefore : ℕ → ℕ
+bytesBefore k = 8 + 10 * k

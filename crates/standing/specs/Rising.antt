@@ -39,11 +39,13 @@ unfoldable pub misfiled : ℕ → ℕ → List Notice → Bool
 misfiled n k [] = false
 misfiled n k (x ∷ xs) = k notBelow x .number || unfit n (x .target) || misfiled n (x .number) xs
 
+-- whether a target is the filler's
 abbrev pub isFirstTarget : Target → Bool
 isFirstTarget (Links stage switch set) = eqb stage 0 && eqb switch 0 && eqb set 0
 isFirstTarget (Switch column switch) = false
 isFirstTarget (Pattern stage value mask set) = false
 
+-- whether a place holds the filler
 abbrev pub isFiller : Notice → Bool
 isFiller x = eqb (x .number) 0 && isFirstTarget (x .target)
 

@@ -1,4 +1,5 @@
--- Document 01, 'Numbers handed back': the number of each refusal.
+-- Document 01, 'Numbers handed back': the number of each refusal. 11 comes with a stage and 17 ends a walk: `walkSays` of walks and
+-- `routeSays` of router give them.
 use Prim.Native.Nat.{ℕ}
 use Rattle.table.specs.declared.Refusal.{Refusal}
 use Rattle.table.specs.declared.Refusal.the-variants.{Size, Layout, Zero, Place, Field, Wide, Stands, Full, Absent, Label, Tag, Room, Mark, Length, Book}

@@ -14,7 +14,8 @@ use Rattle.book.specs.declared.Book.{Book}
 use Rattle.book.specs.Standing.{standing, stopper, unsound}
 use Rattle.walks.specs.declared.Ended.{Ended}
 
--- which links a book stops
+-- which links a book stops, and the lowest number that does. `clear-since` of promises says that these are the links that the notices
+-- accepted and not withdrawn since name.
 abbrev pub stopsOf : Book → Rule
 stopsOf b i j c = stopper (b .n) (standing b) i j c
 
