@@ -6,7 +6,7 @@ use Rattle.words.specs.Wrote.{Wrote}
 use Rattle.book.specs.declared.Book.{Book}
 use Rattle.book.specs.declared.Kept.{Kept}
 use Rattle.book.specs.Entries.{Files, Withdraws}
-use Rattle.router.specs.declared.Found.{Found}
+use Rattle.crossing.specs.declared.Found.{Found}
 use Rattle.router.specs.Entries.{Routes}
 use Rattle.actions.specs.declared.Action.{Action}
 use Rattle.actions.specs.Entries.{ReadsAction}

@@ -4,7 +4,7 @@ use Prim.Native.Nat.{ℕ}
 use Rattle.table.specs.declared.Refusal.{Refusal}
 use Rattle.words.specs.Words.{decimal, tagBits, line, refusal, SHEET, FILE, WITHDRAW, ROUTE, ACTION, OK, TAG, NONE}
 use Rattle.book.specs.declared.Answer.{Answer}
-use Rattle.router.specs.declared.Found.{Found}
+use Rattle.crossing.specs.declared.Found.{Found}
 
 -- "`OK`, or `REFUSED` and the table number"
 abbrev pub told : Answer → List (List ℕ)

@@ -2,8 +2,8 @@
 use actions::Action;
 use book::Answer;
 use book::Book;
+use crossing::Found;
 use notices::Notice;
-use router::Found;
 use table::Refusal;
 use words::bits;
 use words::number;

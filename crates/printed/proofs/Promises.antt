@@ -1,18 +1,20 @@
 -- A run refuses by its one check, or prints what its header asks.
 use mathlib.Core.Path.{_≡_, refl, sym, ap, _∙_}
+use mathlib.Core.Bool.{not}
 use mathlib.Core.Logic.{_⊎_, inl, inr}
 use mathlib.Core.List.{List, [], _∷_}
 use Prim.Native.Nat.{ℕ, _+_, _≤_, _<_}
 use native.Mathlib.Nat.{zero-add}
 use native.Mathlib.Omega.{arith}
 use borrow.Author.Tests.{lt-ltb, le-ltb, ltb-false}
+use lib.Dec.{eqb}
 use lib.ListN.{length, drop, length-append}
 use Rattle.table.specs.declared.Refusal.{Refusal}
 use Rattle.table.specs.Reply.{Reply.accepted, refused}
 use Rattle.table.specs.Checks.{Given, Given.here, Passed, Passed.none, Passed.passes, _below_}
 use Rattle.table.proofs.Checks.{given-or-passed, given-once, not-given-and-passed, passed-nth, neither}
 use Rattle.sheet.specs.declared.Header.{Header}
-use Rattle.sheet.specs.Format.{sizeIn}
+use Rattle.sheet.specs.Format.{sizeIn, countIn, bytesBefore}
 use Rattle.sheet.specs.Entries.{headerChecks, ReadsHeader}
 use Rattle.sheet.proofs.Promises.{header-passed, header-fields}
 use Rattle.printed.specs.declared.Ran.{Ran}
@@ -38,12 +40,12 @@ module _ (sheet : List ℕ) (header : Header) (before : List ℕ) where
         prints = λ p. absurd (not-given-and-passed 13 (runChecks header before) g p);
       }
 
-  pub runs-whole : {text after : List ℕ} {next : ℕ} → room header ≤ length before → Prints sheet header text → Wrote before 0 text after next → RunsBy sheet header before (Ran.Printed next) after
-  runs-whole {text} {after} {next} h p w =
+  pub runs-whole : {text after : List ℕ} {next : ℕ} → room header ≤ length before → Prints sheet header text → Wrote before 0 text after next → next ≤ room header → RunsBy sheet header before (Ran.Printed next) after
+  runs-whole {text} {after} {next} h p w short =
       let q : Passed (runChecks header before) = passes (le-ltb (length before) (room header) h) none in
       record {
         refuses = λ k g. absurd (not-given-and-passed k (runChecks header before) g q);
-        prints = λ r. (text, p, ap (λ (k : ℕ). accepted (k ∷ [])) (w .ends ∙ zero-add (length text)), wrote-front w);
+        prints = λ r. (text, p, ap (λ (k : ℕ). accepted (k ∷ [])) (w .ends ∙ zero-add (length text)), wrote-front w, (let e = w .ends in omega arith));
       }
 
 pub runs-as : {sheet before after : List ℕ} {r : Ran} {h told : Header}
@@ -64,4 +66,29 @@ runs-fit {sheet} {before} {after} {r} {bytes} w e = go (given-or-passed (runChec
         let f : accepted (bytes ∷ []) ≡ accepted (length (q .0) ∷ []) = sym (ap ranSays e) ∙ q .2 in
         let b : bytes ≡ length (q .0) = cc in
         let l : length after ≡ length (q .0) + length (drop (length (q .0)) before) = ap length (q .3) ∙ length-append (q .0) (drop (length (q .0)) before) in
+        omega arith
+
+-- and within the room of the longest sheet
+pub runs-within : {sheet before after : List ℕ} {r : Ran} {bytes : ℕ} → Runs sheet before r after → r ≡ Ran.Printed bytes → bytes ≤ 196632
+runs-within {sheet} {before} {after} {r} {bytes} w e = go (given-or-passed (runChecks (w .header) before))
+  where
+    within : (h : Header) → ReadsHeader sheet h → room h ≤ 196632
+    within (Header.Sheet n count) q =
+        let l = neither (4096 below countIn sheet) (not (eqb (length sheet) (bytesBefore (countIn sheet)))) (passed-nth (headerChecks sheet) 2 (header-passed q)) .0 in
+        let few = ltb-false 4096 (countIn sheet) l in
+        let same = header-fields q .1 in
+        omega arith
+    within (Header.Refused why) q = omega arith
+
+    go : ((k : ℕ) × Given k (runChecks (w .header) before)) ⊎ Passed (runChecks (w .header) before) → bytes ≤ 196632
+    go (inl g) =
+        let f : accepted (bytes ∷ []) ≡ refused (g .0) = sym (ap ranSays e) ∙ w .runs .refuses (g .0) (g .1) .0 in
+        let z : _≡_ {A = ℕ} 0 1 = cc in
+        absurd (omega arith)
+    go (inr p) =
+        let q = w .runs .prints p in
+        let f : accepted (bytes ∷ []) ≡ accepted (length (q .0) ∷ []) = sym (ap ranSays e) ∙ q .2 in
+        let b : bytes ≡ length (q .0) = cc in
+        let l = q .4 in
+        let m = within (w .header) (w .reads) in
         omega arith

@@ -1,7 +1,7 @@
 -- Document 01, 'The sheet and what is printed': what running a sheet prints.
 use mathlib.Core.Path.{_≡_}
 use mathlib.Core.List.{List, [], _∷_, _++_}
-use Prim.Native.Nat.{ℕ, suc, _+_, _*_}
+use Prim.Native.Nat.{ℕ, suc, _+_, _*_, _≤_}
 use lib.ListN.{length, drop}
 use Rattle.table.specs.Numbers.{numberOf}
 use Rattle.table.specs.Reply.{Reply, refused}
@@ -26,8 +26,7 @@ abbrev pub Prints : List ℕ → Header → List ℕ → Type 0
 Prints sheet (Header.Sheet n count) text = (lines : List ℕ) × (b : Book) × Lines sheet n count lines b × (text ≡ sheetLine n count ++ lines)
 Prints sheet (Header.Refused why) text = text ≡ refusedSheet why
 
--- the room that a run asks for, whatever it prints: 24 bytes for the first line and 48 for each action. That they suffice is
--- `short` of each line that is written; `runs-fit` says that what was printed lies within the memory.
+-- the room that a run asks for, whatever it prints: 24 bytes for the first line and 48 for each action
 abbrev pub room : Header → ℕ
 room (Header.Sheet n count) = 24 + 48 * count
 room (Header.Refused why) = 24
@@ -40,10 +39,11 @@ abbrev pub ranSays : Ran → Reply
 ranSays (Ran.Printed bytes) = Reply.accepted (bytes ∷ [])
 ranSays (Ran.Refused why) = refused (numberOf why)
 
--- a run writes what is printed at the front of the lent memory; the rest stays
+-- a run writes what is printed at the front of the lent memory, within the room that it asks for; the rest stays
 abbrev pub Printed : List ℕ → Header → List ℕ → Ran → List ℕ → Type 0
 Printed sheet header before answer after =
     (text : List ℕ) × Prints sheet header text × (ranSays answer ≡ Reply.accepted (length text ∷ [])) × (after ≡ text ++ drop (length text) before)
+    × (length text ≤ room header)
 
 pub record RunsBy (sheet : List ℕ) (header : Header) (before : List ℕ) (answer : Ran) (after : List ℕ) : Type 0 where
   pub refuses : (k : ℕ) → Given k (runChecks header before) → (ranSays answer ≡ refused k) × (after ≡ before)
@@ -59,3 +59,4 @@ pub record LinesWritten (sheet : List ℕ) (n count : ℕ) (before : List ℕ) (
   pub text : List ℕ
   pub tells : Lines sheet n count text b
   pub wrote : Wrote before at text after next
+  pub short : next ≤ at + 48 * count

@@ -16,7 +16,7 @@ use Rattle.standing.specs.Rising.{Distinct}
 use Rattle.book.proofs.Since.{same-book}
 use Rattle.book.proofs.Once.{files-once, withdraws-once, tests-once, lists-once}
 use Rattle.walks.specs.declared.Ended.{Ended}
-use Rattle.router.specs.declared.Found.{Found}
+use Rattle.crossing.specs.declared.Found.{Found}
 use Rattle.walks.specs.Entries.{Walks}
 use Rattle.router.specs.Entries.{Routes}
 use Rattle.walks.proofs.Entries.{walk-once}

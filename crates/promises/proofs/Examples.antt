@@ -24,9 +24,10 @@ use Rattle.book.specs.Entries.{opened, linkChecks, Tests}
 use Rattle.book.specs.Runs.{Change, changeChecks, after, run, AllAccepted}
 use Rattle.book.proofs.Changes.{taken}
 use Rattle.book.proofs.Answers.{link-stopped}
-use Rattle.router.specs.declared.Found.{Found}
+use Rattle.crossing.specs.declared.Found.{Found}
 use Rattle.walks.specs.Entries.{stopsOf}
-use Rattle.router.specs.Entries.{routeChecks, Routed, Routes}
+use Rattle.router.specs.Entries.{routeChecks, Routes}
+use Rattle.crossing.specs.Routed.{Routed}
 use Rattle.router.proofs.Promises.{route-passes}
 use Rattle.promises.specs.Examples.{Example, Claim, examples, AllHold}
 use Rattle.promises.proofs.Found.{answerFrom, routeOf, route-of}

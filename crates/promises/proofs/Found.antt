@@ -11,9 +11,9 @@ use Rattle.paths.specs.declared.Front.{Front}
 use Rattle.paths.specs.Clear.{Rule}
 use Rattle.paths.specs.Frontier.{start, high, lesser, advanced, stopsFrom}
 use Rattle.paths.proofs.Frontier.{Holds, looks-from, start-holds, advanced-holds}
-use Rattle.router.specs.declared.Found.{Found}
-use Rattle.router.specs.Entries.{Routed}
-use Rattle.router.proofs.Routing.{none-ahead, found-ahead}
+use Rattle.crossing.specs.declared.Found.{Found}
+use Rattle.crossing.specs.Routed.{Routed}
+use Rattle.crossing.proofs.Routing.{none-ahead, found-ahead}
 
 -- the frontier one stage on, and the high switch of the next column with it
 abbrev onFront : ℕ → Rule → ℕ → ℕ → ℕ → Front → Front

@@ -20,8 +20,9 @@ use Rattle.book.specs.Standing.{standing, stopper}
 use Rattle.book.specs.Entries.{answerSays, linkSays, fileChecks, withdrawChecks, linkChecks}
 use Rattle.book.specs.Runs.{Change, after}
 use Rattle.walks.specs.Entries.{stopsOf}
-use Rattle.router.specs.declared.Found.{Found}
-use Rattle.router.specs.Entries.{routeSays, routeChecks, Routed, Routes}
+use Rattle.crossing.specs.declared.Found.{Found}
+use Rattle.crossing.specs.Routed.{routeSays, Routed}
+use Rattle.router.specs.Entries.{routeChecks, Routes}
 use Rattle.promises.specs.Controllers.{Controller, Keeps}
 use Rattle.promises.proofs.Found.{routeOf, route-of}
 

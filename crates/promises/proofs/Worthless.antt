@@ -32,9 +32,10 @@ use Rattle.book.proofs.Changes.{standing-of}
 use Rattle.standing.proofs.Filings.{filed-if}
 use Rattle.book.proofs.Stoppers.{stopper-none}
 use Rattle.book.proofs.Once.{answer-tells}
-use Rattle.router.specs.declared.Found.{Found}
+use Rattle.crossing.specs.declared.Found.{Found}
 use Rattle.walks.specs.Entries.{stopsOf}
-use Rattle.router.specs.Entries.{routeChecks, Routed, Routes}
+use Rattle.router.specs.Entries.{routeChecks, Routes}
+use Rattle.crossing.specs.Routed.{Routed}
 use Rattle.router.proofs.Entries.{route-once}
 use Rattle.promises.specs.Examples.{links}
 use Rattle.promises.specs.Controllers.{Controller, Keeps, SaysElevenAlways, GivesTagZeroAlways, InventsAStage, RefusesEveryFiling, SameLinks, FilesNothing, StoresTheFirstOnly, OpensForBoth, PlusAndMinusOneLink, LooksOnlyWhereItStands, GivesUp}

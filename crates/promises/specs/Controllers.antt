@@ -18,7 +18,7 @@ use Rattle.book.specs.declared.Link.{Link}
 use Rattle.notices.specs.Targets.{names}
 use Rattle.book.specs.Standing.{standing}
 use Rattle.book.specs.Entries.{Files, Withdraws, Tests}
-use Rattle.router.specs.declared.Found.{Found}
+use Rattle.crossing.specs.declared.Found.{Found}
 use Rattle.walks.specs.Entries.{stopsOf}
 use Rattle.router.specs.Entries.{routeChecks, Routes}
 

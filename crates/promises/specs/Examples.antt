@@ -9,7 +9,7 @@ use Rattle.notices.specs.declared.Target.the-variants.{Links}
 use Rattle.book.specs.declared.Link.{Link}
 use Rattle.book.specs.Entries.{opened, Tests}
 use Rattle.book.specs.Runs.{Change, run, AllAccepted}
-use Rattle.router.specs.declared.Found.{Found}
+use Rattle.crossing.specs.declared.Found.{Found}
 use Rattle.router.specs.Entries.{Routes}
 
 pub data Example : Type 0 where

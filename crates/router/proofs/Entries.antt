@@ -4,49 +4,26 @@ use mathlib.Core.Bool.{Bool, false, _||_}
 use mathlib.Core.List.{List, [], _∷_}
 use mathlib.Core.Logic.{⊎-elim, _↔_}
 use Prim.Native.Nat.{ℕ, suc, _<_}
-use native.Mathlib.Omega.{arith}
 use borrow.Author.Tests.{leb-false, lt-leb}
 use lib.ListN.{getD}
-use Rattle.table.specs.Numbers.{numberOf}
-use Rattle.table.specs.Reply.{Reply, refused}
+use Rattle.table.specs.Reply.{Reply}
 use Rattle.table.specs.Checks.{Given, Passed, Passed.none, Passed.passes, _when_, _notBelow_}
-use Rattle.table.proofs.Numbers.{number-tells}
 use Rattle.table.proofs.Checks.{given-or-passed, passed-nth, neither}
 use Rattle.fabric.specs.Labels.{size}
 use Rattle.fabric.specs.Walks.{switchAt}
-use Rattle.scheme.specs.Tags.{tags, stepsOf, normalTag}
+use Rattle.scheme.specs.Tags.{tags, stepsOf}
 use Rattle.scheme.proofs.NormalTags.{steps-come-back, normal-is-tag}
 use Rattle.scheme.proofs.Steps.{tag-arrives}
 use Rattle.book.specs.declared.Book.{Book}
 use Rattle.book.specs.Standing.{unsound}
 use Rattle.paths.specs.Clear.{Rule, Alike, Clear, ClearPath, Onward, StageNamed}
-use Rattle.paths.proofs.Order.{first-once}
-use Rattle.paths.proofs.Walks.{stage-once}
+use Rattle.crossing.proofs.Once.{found-tells, routed-once, eleven-routed}
 use Rattle.walks.proofs.Entries.{walked-once}
 use Rattle.walks.specs.declared.Ended.{Ended}
-use Rattle.router.specs.declared.Found.{Found}
+use Rattle.crossing.specs.declared.Found.{Found}
 use Rattle.walks.specs.Entries.{stopsOf, walkChecks, Walked, Walks}
-use Rattle.router.specs.Entries.{routeSays, routeChecks, Routed, Routes}
-
--- answers that say one number alone are one answer
-pub found-tells : (a b : Found) (k : ℕ) → routeSays a ≡ refused k → routeSays b ≡ refused k → a ≡ b
-found-tells (Found.Tag t) b k e f = let z : _≡_ {A = ℕ} 0 1 = cc in absurd (omega arith)
-found-tells (Found.None i) b k e f = let z : _≡_ {A = ℕ} 0 1 = cc in absurd (omega arith)
-found-tells (Found.Refused q) (Found.Tag t) k e f = let z : _≡_ {A = ℕ} 0 1 = cc in absurd (omega arith)
-found-tells (Found.Refused q) (Found.None j) k e f = let z : _≡_ {A = ℕ} 0 1 = cc in absurd (omega arith)
-found-tells (Found.Refused q) (Found.Refused r) k e f = let z : numberOf q ≡ numberOf r = cc in ap Found.Refused (number-tells q r z)
-
--- over one rule, a route has one answer
-module _ (n : ℕ) (stops : Rule) where
-  pub routed-once : (s d : ℕ) (a b : Found) → Routed n stops s d a → Routed n stops s d b → a ≡ b
-  routed-once s d (Found.Tag t) (Found.Tag u) p q =
-      ap Found.Tag (p .2 ∙ ap (normalTag n s) (first-once n stops s d (p .0) (q .0) (p .1) (q .1)) ∙ sym (q .2))
-  routed-once s d (Found.Tag t) (Found.None j) p q = absurd (q .0 (p .0) (p .1 .clearPath))
-  routed-once s d (Found.Tag t) (Found.Refused r) p q = absurd q
-  routed-once s d (Found.None i) (Found.Tag u) p q = absurd (p .0 (q .0) (q .1 .clearPath))
-  routed-once s d (Found.None i) (Found.None j) p q = ap Found.None (stage-once n stops s d i j (p .1) (q .1))
-  routed-once s d (Found.None i) (Found.Refused r) p q = absurd q
-  routed-once s d (Found.Refused r) b p q = absurd p
+use Rattle.crossing.specs.Routed.{routeSays, Routed}
+use Rattle.router.specs.Entries.{routeChecks, Routes}
 
 -- no second answer
 pub route-once : (b : Book) (s d : ℕ) (x y : Found) → Routes b s d x → Routes b s d y → x ≡ y
@@ -76,16 +53,7 @@ module _ (b : Book) (s d : ℕ) (passed : Passed (routeChecks b s d)) (a : Found
 
   -- 11: "no clear path, with the stage"
   pub eleven-exactly : (i : ℕ) → (routeSays a ≡ Reply.refusedWith 11 (i ∷ [])) ↔ (((cs : List ℕ) → ClearPath (b .n) (stopsOf b) s d cs → ⊥) × StageNamed (b .n) (stopsOf b) s d i)
-  eleven-exactly i = (told a (answers .routes passed), holds)
-    where
-      told : (x : Found) → Routed (b .n) (stopsOf b) s d x → routeSays x ≡ Reply.refusedWith 11 (i ∷ [])
-          → ((cs : List ℕ) → ClearPath (b .n) (stopsOf b) s d cs → ⊥) × StageNamed (b .n) (stopsOf b) s d i
-      told (Found.Tag t) w e = let z : _≡_ {A = ℕ} 0 1 = cc in absurd (omega arith)
-      told (Found.None j) w e = let z : j ≡ i = cc in subst (λ (k : ℕ). Routed (b .n) (stopsOf b) s d (Found.None k)) z w
-      told (Found.Refused r) w e = absurd w
-
-      holds : ((cs : List ℕ) → ClearPath (b .n) (stopsOf b) s d cs → ⊥) × StageNamed (b .n) (stopsOf b) s d i → routeSays a ≡ Reply.refusedWith 11 (i ∷ [])
-      holds w = ap routeSays (routed-once (b .n) (stopsOf b) s d a (Found.None i) (answers .routes passed) w)
+  eleven-exactly i = eleven-routed (b .n) (stopsOf b) s d a (answers .routes passed) i
 
 -- walking the tag that a route answered says clear
 pub route-walks-clear : (b : Book) (s d t : ℕ) → Passed (routeChecks b s d) → Routes b s d (Found.Tag t) → (a : Ended) → Walks b s t a → a ≡ Ended.Clear

@@ -24,7 +24,8 @@ use Rattle.paths.specs.declared.Stops.{Stops}
 use Rattle.paths.specs.Clear.{Rule}
 use Rattle.paths.specs.Frontier.{high, low, stopsFrom}
 use Rattle.paths.proofs.Pivots.{highRight, high-straight, low-plus, low-minus, high-plus, high-minus, low-straight}
-use Rattle.router.specs.Marks.{Marked, columnOf, tellsOf, unmarked, marksOf, marksAt}
+use Rattle.crossing.specs.Marked.{Marked, unmarked}
+use Rattle.router.specs.Marks.{columnOf, tellsOf, marksOf, marksAt}
 
 -- rules that agree at a stage give the same numbers there
 rules-agree : (f g : Rule) (n i j : ℕ) (right : Bool) → ((k c : ℕ) → f i k c ≡ g i k c) → stopsFrom f n i j right ≡ stopsFrom g n i j right

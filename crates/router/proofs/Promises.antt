@@ -15,10 +15,11 @@ use Rattle.book.specs.declared.Book.{Book}
 use Rattle.book.specs.Standing.{standing, unused, unsound}
 use Rattle.standing.specs.Rising.{misfiled, littered}
 use Rattle.standing.proofs.Arrays.{none-left}
-use Rattle.router.specs.declared.Found.{Found}
+use Rattle.crossing.specs.declared.Found.{Found}
 use Rattle.router.proofs.Filing.{last-true}
 use Rattle.walks.specs.Entries.{stopsOf}
-use Rattle.router.specs.Entries.{routeChecks, Routed, Routes}
+use Rattle.router.specs.Entries.{routeChecks, Routes}
+use Rattle.crossing.specs.Routed.{Routed}
 
 module _ (b : Book) (s d : ℕ) where
   pub route-refuses : (r : Refusal) → Given (numberOf r) (routeChecks b s d) → Routes b s d (Found.Refused r)

@@ -2,15 +2,14 @@
 use mathlib.Core.Path.{_≡_}
 use mathlib.Core.Bool.{Bool, cond}
 use mathlib.Core.List.{List}
-use Prim.Native.Nat.{ℕ, _≤_, _<_}
+use Prim.Native.Nat.{ℕ, _≤_}
 use lib.Dec.{eqb}
 use lib.Bits.{bitAnd}
 use lib.ListN.{getD}
 use Rattle.fabric.specs.Labels.{bit}
 use Rattle.fabric.specs.Links.{lands}
 use Rattle.paths.specs.declared.Stops.{Stops}
-use Rattle.paths.specs.Clear.{Rule}
-use Rattle.paths.specs.Frontier.{high, stopsFrom}
+use Rattle.paths.specs.Frontier.{high}
 use Rattle.notices.specs.declared.Notice.{Notice}
 use Rattle.notices.specs.declared.Target.{Target}
 use Rattle.notices.specs.declared.Target.the-variants.{Links, Switch, Pattern}
@@ -19,15 +18,6 @@ use Rattle.notices.specs.Targets.{names}
 -- the high switch of each column
 abbrev pub Highs : ℕ → ℕ → ℕ → List ℕ → Type 0
 Highs n s d hs = (i : ℕ) → i ≤ n → getD hs i 0 ≡ high n s d i
-
--- nothing stops the links of a stage
-abbrev pub unmarked : Stops
-unmarked = record { straight = 0; plus = 0; minus = 0 }
-
--- what a rule stops at each stage out of the column's two switches, toward d
-abbrev pub Marked : ℕ → Rule → ℕ → ℕ → List Stops → Type 0
-Marked n stops s d marks =
-    (i : ℕ) → i < n → getD marks i unmarked ≡ stopsFrom stops n i (high n s d i) (eqb (bit i (high n s d i)) (bit i d))
 
 -- one notice more, of a lower number
 abbrev pub mark : ℕ → Notice → ℕ → ℕ → ℕ → ℕ → ℕ

@@ -3,11 +3,3 @@ mod marks; // marks.rt: which links on the way are stopped
 mod routes; // routes.rt: the first clear path, or the stage that none can cross
 
 pub use routes::route;
-use table::Refusal;
-
-// What a route answers: the tag of the first clear path, or the stage that no clear walk can cross.
-pub enum Found {
-    Tag(u32),
-    None(u8),
-    Refused(Refusal),
-}

@@ -10,7 +10,8 @@ ghost use lib.Dec.{eqb};
 ghost use Rattle.fabric.specs.Labels.{size};
 ghost use Rattle.fabric.specs.Links.{lands};
 ghost use Rattle.notices.specs.Targets.{names};
-ghost use Rattle.router.specs.Marks.{Highs, columnOf, tellsOf, unmarked, mark, marksOf, marksAt};
+ghost use Rattle.router.specs.Marks.{Highs, columnOf, tellsOf, mark, marksOf, marksAt};
+ghost use Rattle.crossing.specs.Marked.{unmarked};
 
 // The high switches of the columns.
 pub fn highs(n: u8, source: u16, destination: u16) -> [u16; 13]

@@ -1,5 +1,4 @@
 // Document 01, 'route': the first clear path, or the stage that no clear walk can cross.
-use crate::Found;
 use crate::marks::column_of;
 use crate::marks::highs;
 use crate::marks::near;
@@ -7,6 +6,8 @@ use crate::marks::nothing;
 use crate::marks::stage_of;
 use crate::marks::with_notice;
 use book::Book;
+use crossing::Found;
+use crossing::cross;
 use paths::Stops;
 use table::Refusal;
 ghost use mathlib.Core.Path.{_≡_};
@@ -15,10 +16,9 @@ ghost use Prim.Native.Nat.{_≤_, _<_};
 ghost use Rattle.fabric.specs.Labels.{size};
 ghost use Rattle.book.specs.Standing.{standing, unsound};
 ghost use Rattle.standing.specs.Rising.{misfiled};
-ghost use Rattle.paths.specs.Clear.{Rule};
 ghost use Rattle.walks.specs.Entries.{stopsOf};
-ghost use Rattle.router.specs.Entries.{Routed, Routes};
-ghost use Rattle.router.specs.Marks.{Marked};
+ghost use Rattle.crossing.specs.Routed.{Routed};
+ghost use Rattle.router.specs.Entries.{Routes};
 
 // "route: 16, 10, 11." The one pass over the notices that finds the route also finds whether one of them is misfiled, so of 16
 // only the rest is tested before it.
@@ -93,28 +93,4 @@ fn ahead(book: Book, source: u16, destination: u16) -> Found
         return Found::Refused(Refusal::Book);
     }
     cross(n, source, destination, marks)
-}
-
-// The frontier from the source to the last column, or to the stage where it is empty, for whatever rule the marks are of.
-fn cross(n: u8, source: u16, destination: u16, marks: [Stops; 13]) -> Found
-    requires { ⌜ (n ≤ 12) × (source < size n) × (destination < size n) ⌝ }
-    ensures { λ r. ⌜ ((stops : Rule) → Marked n stops source destination marks → Routed n stops source destination r) ⌝ }
-{
-    let apart = std::num::wrapping_sub_u16(destination, source);
-    let mut front = paths::at_source();
-    let mut i = 0;
-    while i < n {
-        let stops = marks[i as usize];
-        let t = fabric::bit_of(i, destination);
-        let right = fabric::bit_of(i, apart) == 0;
-        front = paths::advance(front, right, t, stops, i);
-        if !paths::reached(front) {
-            return Found::None(i);
-        }
-        i += 1;
-    }
-    let high = front.high;
-    let low = front.low;
-    let first = paths::first_of(high, low);
-    Found::Tag(scheme::joined(n, destination, first.states))
 }

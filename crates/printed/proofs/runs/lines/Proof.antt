@@ -13,7 +13,7 @@ use Rattle.printed.proofs.runs.lines.Tie as tie
 
 abbrev Inv-loop : tie.InvT-loop
 Inv-loop sheet n count out₀ at book₀ next₀ k₀ out book next k =
-    (k ≤ count) × LinesWritten sheet n k out₀ at out next book × (next ≤ at + 48 * k) × (length out ≡ length out₀)
+    (k ≤ count) × LinesWritten sheet n k out₀ at out next book × (length out ≡ length out₀)
 
 abbrev μ-loop : tie.MeasureT-loop
 μ-loop sheet n count out₀ at book₀ next₀ k₀ out book next k = count - k
@@ -24,7 +24,7 @@ open-requires c κs = search needs
 loop-holds : tie.Need-loop-holds Inv-loop μ-loop
 loop-holds c =
     let a = c .before .before .before .before .args in
-    (omega arith, record { text = []; tells = start (c .before .«open» .ensures); wrote = wrote-none (a .out .now) (a .at) (omega arith) }, omega arith, refl)
+    (omega arith, record { text = []; tells = start (c .before .«open» .ensures); wrote = wrote-none (a .out .now) (a .at) (omega arith); short = omega arith }, refl)
 
 action-part-requires : tie.Need-action-part-requires Inv-loop μ-loop
 action-part-requires c κs = search needs
@@ -50,13 +50,13 @@ loop-again c =
         text = w .text ++ l .text;
         tells = rw add-one (more (w .tells) (rw (part .ensures .0) at (l .tells)));
         wrote = wrote-more (a .out .now) (a .at) (omega arith) (w .wrote) (l .wrote);
+        short = let s = l .short in let i = w .short in omega arith;
       },
-      let s = l .short in let i = v .inv .2 in omega arith,
-      c .before .before .before .action-line .kept .1 .1 .1 .0 ∙ v .inv .3,
+      c .before .before .before .action-line .kept .1 .1 .1 .0 ∙ v .inv .2,
     )
 
 same-length : tie.Need-same-length Inv-loop μ-loop
-same-length c = c .before .loop .inv .3
+same-length c = c .before .loop .inv .2
 
 returns : tie.Need-returns Inv-loop μ-loop
 returns c =

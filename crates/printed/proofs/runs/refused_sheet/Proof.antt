@@ -29,6 +29,7 @@ returns-2 c sheet =
     let first = c .before .before .before .before .before .before .word in
     let end = c .before .before .refusal-told in
     runs-whole sheet (Header.Refused (a .why)) (a .out .now) (omega arith) refl (wrote-more (a .out .now) 0 (omega arith) (first .ensures) (end .ensures .0))
+    (let e = first .ensures .ends in let s = end .ensures .1 in omega arith)
 
 pub refused-sheet-spec : {M : Type 1} → statement M
 refused-sheet-spec =

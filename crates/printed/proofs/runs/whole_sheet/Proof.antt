@@ -33,6 +33,7 @@ returns-2 c =
     let b = c .before .before .lines .ensures .0 in
     let w = c .before .before .lines .ensures .1 in
     runs-whole (a .sheet .now) (Header.Sheet (a .n) (a .count)) (a .out .now) (c .before .before .before .before .before .before .before .before .if1 .left) (w .text, b, w .tells, refl) (wrote-more (a .out .now) 0 (omega arith) first (w .wrote))
+    (let s = w .short in let f = c .before .before .before .before .before .before .sheet-line .ensures .1 in omega arith)
 
 pub whole-sheet-spec : {M : Type 1} → statement M
 whole-sheet-spec =

@@ -3,7 +3,7 @@ use mathlib.Core.Path.{_≡_, refl, sym, _∙_}
 use Prim.Native.Nat.{ℕ, _+_, _-_, _%_, _^_, _≤_, _<_}
 use native.Mathlib.Omega.{arith}
 use lib.ListN.{length, getD, length-set}
-use Rattle.router.proofs.Apart.{high-above}
+use Rattle.crossing.proofs.Apart.{high-above}
 use Rattle.router.proofs.Marking.{filled-more}
 use borrow.Author.Needs.{needs}
 use Rattle.router.proofs.marks.highs.Statement.{statement}

@@ -15,7 +15,8 @@ use Rattle.standing.proofs.Arrays.{length-mapped, none-left-of}
 use Rattle.paths.specs.Frontier.{high}
 use Rattle.paths.proofs.Pivots.{high-lt}
 use Rattle.walks.specs.Entries.{stopsOf}
-use Rattle.router.specs.Marks.{Highs, Marked, tellsOf, unmarked, marksAt}
+use Rattle.router.specs.Marks.{Highs, tellsOf, marksAt}
+use Rattle.crossing.specs.Marked.{Marked, unmarked}
 use Rattle.router.proofs.Filing.{fit-column, unfit-there, misfiled-after, misfiled-there, filed-one}
 use Rattle.router.proofs.Marking.{marked-none, marked-more, marked-same, from-before}
 use borrow.Author.Needs.{needs}

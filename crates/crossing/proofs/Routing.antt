@@ -13,9 +13,9 @@ use Rattle.paths.specs.Clear.{Rule}
 use Rattle.paths.specs.Frontier.{high, lesser, advanced, stopsFrom}
 use Rattle.paths.proofs.Pivots.{highRight}
 use Rattle.paths.proofs.Frontier.{Holds, Found, looks-from, lesser-reached, advanced-holds, none-reached, some-reached, found-first, stage-named, none-clear}
-use Rattle.router.specs.declared.Found as answer
-use Rattle.router.specs.Entries.{Routed}
-use Rattle.router.specs.Marks.{Marked, unmarked}
+use Rattle.crossing.specs.declared.Found as answer
+use Rattle.crossing.specs.Routed.{Routed}
+use Rattle.crossing.specs.Marked.{Marked, unmarked}
 
 module _ (n : ℕ) (stops : Rule) (s d : ℕ) (source : s < size n) where
   -- one stage on, by what the marks hold

@@ -14,11 +14,11 @@ use Rattle.paths.proofs.Places.{lesser-small}
 use Rattle.paths.specs.Clear.{Rule}
 use Rattle.paths.proofs.Frontier.{Holds, start-holds}
 use Rattle.paths.specs.Frontier.{Small, start}
-use Rattle.router.specs.Marks.{Marked}
-use Rattle.router.proofs.Apart.{right-where}
-use Rattle.router.proofs.Routing.{front-on, none-ahead, found-ahead}
-use Rattle.router.proofs.routes.cross.Statement.{statement}
-use Rattle.router.proofs.routes.cross.Tie as tie
+use Rattle.crossing.specs.Marked.{Marked}
+use Rattle.crossing.proofs.Apart.{right-where}
+use Rattle.crossing.proofs.Routing.{front-on, none-ahead, found-ahead}
+use Rattle.crossing.proofs.cross.Statement.{statement}
+use Rattle.crossing.proofs.cross.Tie as tie
 
 abbrev Inv-loop : tie.InvT-loop
 Inv-loop n source destination marks apart front₀ i₀ front i =
