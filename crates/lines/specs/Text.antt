@@ -2,20 +2,10 @@
 use mathlib.Core.List.{List, [], _∷_}
 use Prim.Native.Nat.{ℕ}
 use Rattle.table.specs.declared.Refusal.{Refusal}
-use Rattle.words.specs.Words.{decimal, tagBits, line, refusal, SHEET, FILE, WITHDRAW, ROUTE, ACTION, OK, TAG, NONE}
+use Rattle.answers.specs.Told.{told, foundTold}
+use Rattle.words.specs.Words.{decimal, line, refusal, SHEET, FILE, WITHDRAW, ROUTE, ACTION}
 use Rattle.book.specs.declared.Answer.{Answer}
 use Rattle.crossing.specs.declared.Found.{Found}
-
--- "`OK`, or `REFUSED` and the table number"
-abbrev pub told : Answer → List (List ℕ)
-told Answer.Done = OK ∷ []
-told (Answer.Refused why) = refusal why
-
--- "`TAG` with bits 0 to 2n-1 in that order, `NONE` with the stage, or `REFUSED` with the table number"
-abbrev pub foundTold : ℕ → Found → List (List ℕ)
-foundTold n (Found.Tag tag) = TAG ∷ tagBits n tag ∷ []
-foundTold n (Found.None stage) = NONE ∷ decimal stage ∷ []
-foundTold n (Found.Refused why) = refusal why
 
 -- "First line: `SHEET n count`, or only `SHEET REFUSED k`."
 abbrev pub sheetLine : ℕ → ℕ → List ℕ

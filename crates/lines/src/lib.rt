@@ -1,19 +1,16 @@
 // Document 01, 'The sheet and what is printed': the line of an action, written at a place of lent memory.
 use actions::Action;
-use book::Answer;
+use answers::answer_told;
+use answers::found_told;
 use book::Book;
-use crossing::Found;
 use notices::Notice;
 use table::Refusal;
-use words::bits;
 use words::number;
 use words::refusal_told;
 use words::word;
 ghost use Prim.Native.Nat.{ℕ, _+_, _≤_};
 ghost use lib.ListN.{length};
-ghost use Rattle.words.specs.Words.{ending};
-ghost use Rattle.lines.specs.Text.{told, foundTold};
-ghost use Rattle.words.specs.Wrote.{Wrote};
+ghost use Rattle.answers.specs.Told.{told};
 ghost use Rattle.lines.specs.Lines.{LineAtWritten, LineWritten};
 
 // What is handed on to the next action: the book, and the place after what is written.
@@ -90,45 +87,4 @@ fn fault_line(book: Book, why: Refusal, out: &mut [u8], at: usize) -> Next
     let end = word(out, at, b"ACTION");
     let told = refusal_told(out, end, why);
     Next { book, at: told }
-}
-
-// "`OK`, or `REFUSED` and the table number"
-fn answer_told(out: &mut [u8], at: usize, answer: Answer) -> usize
-    requires { ⌜ at + 15 ≤ length (now out) ⌝ }
-    ensures { λ r. ⌜ (Wrote (now (out .entry)) at (ending (told answer)) (now (out .exit)) r) × (r ≤ at + 15) ⌝ }
-{
-    match answer {
-        Answer::Done => word(out, at, b" OK\n"),
-        Answer::Refused(why) => refusal_told(out, at, why),
-    }
-}
-
-// "`TAG` with bits 0 to 2n-1 in that order, `NONE` with the stage, or `REFUSED` with the table number"
-fn found_told(n: u8, out: &mut [u8], at: usize, answer: Found) -> usize
-    requires { ⌜ (n ≤ 12) × (at + 30 ≤ length (now out)) ⌝ }
-    ensures { λ r. ⌜ (Wrote (now (out .entry)) at (ending (foundTold n answer)) (now (out .exit)) r) × (r ≤ at + 30) ⌝ }
-{
-    match answer {
-        Found::Tag(tag) => tag_told(n, out, at, tag),
-        Found::None(stage) => stage_told(out, at, stage),
-        Found::Refused(why) => refusal_told(out, at, why),
-    }
-}
-
-fn tag_told(n: u8, out: &mut [u8], at: usize, tag: u32) -> usize
-    requires { ⌜ (n ≤ 12) × (at + 30 ≤ length (now out)) ⌝ }
-    ensures { λ r. ⌜ (Wrote (now (out .entry)) at (ending (foundTold n (Found.Tag tag))) (now (out .exit)) r) × (r ≤ at + 30) ⌝ }
-{
-    let mid = word(out, at, b" TAG ");
-    let end = bits(out, mid, 2 * n, tag);
-    word(out, end, b"\n")
-}
-
-fn stage_told(out: &mut [u8], at: usize, stage: u8) -> usize
-    requires { ⌜ at + 30 ≤ length (now out) ⌝ }
-    ensures { λ r. ⌜ ((n : ℕ) → Wrote (now (out .entry)) at (ending (foundTold n (Found.None stage))) (now (out .exit)) r) × (r ≤ at + 30) ⌝ }
-{
-    let mid = word(out, at, b" NONE ");
-    let end = number(out, mid, stage as u16);
-    word(out, end, b"\n")
 }

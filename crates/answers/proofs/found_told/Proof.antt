@@ -1,8 +1,8 @@
 -- A case for each answer.
 use native.Mathlib.Omega.{arith}
 use borrow.Author.Needs.{needs}
-use Rattle.lines.proofs.found_told.Statement.{statement}
-use Rattle.lines.proofs.found_told.Tie as tie
+use Rattle.answers.proofs.found_told.Statement.{statement}
+use Rattle.answers.proofs.found_told.Tie as tie
 
 enum-known-answer : tie.Need-enum-known-answer
 enum-known-answer c = search needs

@@ -1,9 +1,9 @@
--- Two words and 2n bits, one after the other.
+-- Two words and a number, one after the other.
 use native.Mathlib.Omega.{arith}
 use borrow.Author.Needs.{needs}
 use Rattle.words.proofs.Writing.{wrote-more}
-use Rattle.lines.proofs.tag_told.Statement.{statement}
-use Rattle.lines.proofs.tag_told.Tie as tie
+use Rattle.answers.proofs.stage_told.Statement.{statement}
+use Rattle.answers.proofs.stage_told.Tie as tie
 
 slice-aggregate-word : tie.Need-slice-aggregate-word
 slice-aggregate-word c = search needs
@@ -11,11 +11,8 @@ slice-aggregate-word c = search needs
 word-requires : tie.Need-word-requires
 word-requires c κs = search needs
 
-mul-bits : tie.Need-mul-bits
-mul-bits c = search needs
-
-bits-requires : tie.Need-bits-requires
-bits-requires c κs = search needs
+number-requires : tie.Need-number-requires
+number-requires c κs = search needs
 
 slice-aggregate-word-2 : tie.Need-slice-aggregate-word-2
 slice-aggregate-word-2 c = search needs
@@ -30,18 +27,17 @@ returns : tie.Need-returns
 returns c =
     let a = c .before .before .before .before .before .before .before .before .before .before .before .before .before .before .before .args in
     let blank = c .before .before .before .before .before .before .before .before .before .before .before .word in
-    let digits = c .before .before .before .before .before .before .before .bits in
+    let digits = c .before .before .before .before .before .before .before .number in
     let end = c .before .before .word2 in
-    (wrote-more (a .out .now) (a .at) (omega arith) (blank .ensures) (wrote-more (blank .last .0) (blank .result) (omega arith) (digits .ensures .0) (end .ensures)), omega arith)
+    (λ n. wrote-more (a .out .now) (a .at) (omega arith) (blank .ensures) (wrote-more (blank .last .0) (blank .result) (omega arith) (digits .ensures .0) (end .ensures)), omega arith)
 
-pub tag-told-spec : {M : Type 1} → statement M
-tag-told-spec =
+pub stage-told-spec : {M : Type 1} → statement M
+stage-told-spec =
     tie.close
     (tie.spec
     slice-aggregate-word
     word-requires
-    mul-bits
-    bits-requires
+    number-requires
     slice-aggregate-word-2
     word-requires-2
     same-length

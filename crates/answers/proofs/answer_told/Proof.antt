@@ -1,8 +1,8 @@
 -- A case for each answer.
 use native.Mathlib.Omega.{arith}
 use borrow.Author.Needs.{needs}
-use Rattle.lines.proofs.answer_told.Statement.{statement}
-use Rattle.lines.proofs.answer_told.Tie as tie
+use Rattle.answers.proofs.answer_told.Statement.{statement}
+use Rattle.answers.proofs.answer_told.Tie as tie
 
 enum-told : tie.Need-enum-told
 enum-told c = search needs
