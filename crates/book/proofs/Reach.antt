@@ -16,11 +16,10 @@ use Rattle.fabric.specs.Labels.{outsideSizes}
 use Rattle.notices.specs.declared.Notice.{Notice}
 use Rattle.book.specs.declared.Book.{Book}
 use Rattle.notices.specs.Targets.{outsideFabric, badField, tooWide}
-use Rattle.standing.specs.Rising.{filler, stands, insert, Filed}
+use Rattle.standing.specs.Rising.{filler, stands, insert, Filed, Distinct}
 use Rattle.book.specs.Standing.{standing, bookOf, unsound}
 use Rattle.book.specs.Entries.{openChecks, opened, fileChecks}
 use Rattle.book.specs.Runs.{Change, after, Accepted, run, AllAccepted, Reachable}
-use Rattle.standing.specs.Rising.{Distinct}
 use Rattle.book.proofs.Filings.{sound-if}
 use Rattle.book.proofs.Placing.{length-standing, split}
 use Rattle.standing.proofs.Members.{Within, all-above, all-fit, one-number, filed-distinct, stands-member, insert-filed, insert-length, insert-member, insert-has, insert-keeps, within-length, same-notices}

@@ -45,3 +45,8 @@ Stopped n l i j c = (x : Notice) × List·Memᴰ x l × (names n (x .target) i j
 unfoldable pub stopper : ℕ → List Notice → ℕ → ℕ → ℕ → ℕ
 stopper n [] i j c = 0
 stopper n (x ∷ xs) i j c = cond (names n (x .target) i j c) (x .number) (stopper n xs i j c)
+
+-- which links a book stops, and the lowest number that does. `clear-since` of promises says that these are the links that the notices
+-- accepted and not withdrawn since name.
+abbrev pub stopsOf : Book → ℕ → ℕ → ℕ → ℕ
+stopsOf b i j c = stopper (b .n) (standing b) i j c

@@ -10,14 +10,13 @@ use Rattle.fabric.specs.Labels.{outsideSizes}
 use Rattle.fabric.specs.Walks.{switchAt}
 use Rattle.paths.specs.Clear.{Clear}
 use Rattle.book.specs.declared.Book.{Book}
-use Rattle.book.specs.Standing.{standing, stopper}
+use Rattle.book.specs.Standing.{standing, stopper, stopsOf}
 use Rattle.book.specs.Entries.{opened}
 use Rattle.book.specs.Runs.{Change, run}
 use Rattle.book.proofs.Changes.{Good}
 use Rattle.book.proofs.Reach.{good-run, opened-good, opened-is}
 use Rattle.book.proofs.Since.{stands-exactly}
 use Rattle.book.proofs.Stoppers.{stopper-none}
-use Rattle.walks.specs.Entries.{stopsOf}
 use Rattle.promises.specs.Clearness.{UnnamedSince}
 
 module _ (n : ℕ) (legal : outsideSizes n ≡ false) (changes : List Change) (s : ℕ) (cs : List ℕ) where

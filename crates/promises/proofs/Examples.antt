@@ -17,7 +17,7 @@ use Rattle.tags.specs.Entries.{tagToStepsChecks, normalFormChecks}
 use Rattle.tags.proofs.Promises.{to-steps-accepts, form-accepts}
 use Rattle.paths.specs.Frontier.{high, through, lesser, advanced}
 use Rattle.book.specs.declared.Book.{Book}
-use Rattle.book.specs.Standing.{standing, stopper}
+use Rattle.book.specs.Standing.{standing, stopper, stopsOf}
 use Rattle.standing.specs.Rising.{stands, insert, without, misfiled, littered}
 use Rattle.book.specs.declared.Link.{Link}
 use Rattle.book.specs.Entries.{opened, linkChecks, Tests}
@@ -25,7 +25,6 @@ use Rattle.book.specs.Runs.{Change, changeChecks, after, run, AllAccepted}
 use Rattle.book.proofs.Changes.{taken}
 use Rattle.book.proofs.Answers.{link-stopped}
 use Rattle.crossing.specs.declared.Found.{Found}
-use Rattle.walks.specs.Entries.{stopsOf}
 use Rattle.router.specs.Entries.{routeChecks, Routes}
 use Rattle.crossing.specs.Routed.{Routed}
 use Rattle.router.proofs.Promises.{route-passes}

@@ -16,10 +16,9 @@ use Rattle.fabric.specs.Labels.{size}
 use Rattle.book.specs.declared.Book.{Book}
 use Rattle.book.specs.declared.Answer.{Answer}
 use Rattle.book.specs.declared.Link.{Link}
-use Rattle.book.specs.Standing.{standing, stopper}
+use Rattle.book.specs.Standing.{standing, stopper, stopsOf}
 use Rattle.book.specs.Entries.{answerSays, linkSays, fileChecks, withdrawChecks, linkChecks}
 use Rattle.book.specs.Runs.{Change, after}
-use Rattle.walks.specs.Entries.{stopsOf}
 use Rattle.crossing.specs.declared.Found.{Found}
 use Rattle.crossing.specs.Routed.{routeSays, Routed}
 use Rattle.router.specs.Entries.{routeChecks, Routes}

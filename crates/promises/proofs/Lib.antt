@@ -2,6 +2,8 @@
 pub mod Found
 -- the thirteen examples
 pub mod Examples
+-- route and walk agree
+pub mod Walks
 -- demand 3, over routes, over every entry, and for the run of a sheet
 pub mod Clearness
 pub mod DemandThree

@@ -23,7 +23,7 @@ use Rattle.book.specs.declared.Answer.{Answer}
 use Rattle.book.specs.declared.Link.{Link}
 use Rattle.notices.specs.declared.Target.the-variants.{Links}
 use Rattle.notices.specs.Targets.{names}
-use Rattle.book.specs.Standing.{standing, unused, stopper, unsound}
+use Rattle.book.specs.Standing.{standing, unused, stopper, unsound, stopsOf}
 use Rattle.standing.specs.Rising.{stands, insert, without, misfiled, littered}
 use Rattle.book.specs.Entries.{answerSays, linkSays, opened, fileChecks, withdrawChecks, linkChecks, filed, withdrawn, Files, Tests}
 use Rattle.book.specs.Runs.{Change, after, run}
@@ -33,7 +33,6 @@ use Rattle.standing.proofs.Filings.{filed-if}
 use Rattle.book.proofs.Stoppers.{stopper-none}
 use Rattle.book.proofs.Once.{answer-tells}
 use Rattle.crossing.specs.declared.Found.{Found}
-use Rattle.walks.specs.Entries.{stopsOf}
 use Rattle.router.specs.Entries.{routeChecks, Routes}
 use Rattle.crossing.specs.Routed.{Routed}
 use Rattle.router.proofs.Entries.{route-once}

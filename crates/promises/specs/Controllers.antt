@@ -16,10 +16,9 @@ use Rattle.book.specs.declared.Kept.{Kept}
 use Rattle.book.specs.declared.Answer.{Answer}
 use Rattle.book.specs.declared.Link.{Link}
 use Rattle.notices.specs.Targets.{names}
-use Rattle.book.specs.Standing.{standing}
+use Rattle.book.specs.Standing.{standing, stopsOf}
 use Rattle.book.specs.Entries.{Files, Withdraws, Tests}
 use Rattle.crossing.specs.declared.Found.{Found}
-use Rattle.walks.specs.Entries.{stopsOf}
 use Rattle.router.specs.Entries.{routeChecks, Routes}
 
 -- what a controller answers

@@ -1,27 +1,20 @@
 -- Theorems over route: what its answers say, and that its promise leaves no second answer.
-use mathlib.Core.Path.{_≡_, refl, sym, ap, ap₂, subst, _∙_}
+use mathlib.Core.Path.{_≡_, refl, sym, ap₂, subst, _∙_}
 use mathlib.Core.Bool.{Bool, false, _||_}
 use mathlib.Core.List.{List, [], _∷_}
 use mathlib.Core.Logic.{⊎-elim, _↔_}
-use Prim.Native.Nat.{ℕ, suc, _<_}
-use borrow.Author.Tests.{leb-false, lt-leb}
+use Prim.Native.Nat.{ℕ, suc}
 use lib.ListN.{getD}
 use Rattle.table.specs.Reply.{Reply}
-use Rattle.table.specs.Checks.{Given, Passed, Passed.none, Passed.passes, _when_, _notBelow_}
-use Rattle.table.proofs.Checks.{given-or-passed, passed-nth, neither}
+use Rattle.table.specs.Checks.{Given, Passed, Passed.none, _when_, _notBelow_}
+use Rattle.table.proofs.Checks.{given-or-passed}
 use Rattle.fabric.specs.Labels.{size}
 use Rattle.fabric.specs.Walks.{switchAt}
-use Rattle.scheme.specs.Tags.{tags, stepsOf}
-use Rattle.scheme.proofs.NormalTags.{steps-come-back, normal-is-tag}
-use Rattle.scheme.proofs.Steps.{tag-arrives}
 use Rattle.book.specs.declared.Book.{Book}
-use Rattle.book.specs.Standing.{unsound}
-use Rattle.paths.specs.Clear.{Rule, Alike, Clear, ClearPath, Onward, StageNamed}
+use Rattle.book.specs.Standing.{unsound, stopsOf}
+use Rattle.paths.specs.Clear.{Rule, Alike, ClearPath, Onward, StageNamed}
 use Rattle.crossing.proofs.Once.{found-tells, routed-once, eleven-routed}
-use Rattle.walks.proofs.Entries.{walked-once}
-use Rattle.walks.specs.declared.Ended.{Ended}
 use Rattle.crossing.specs.declared.Found.{Found}
-use Rattle.walks.specs.Entries.{stopsOf, walkChecks, Walked, Walks}
 use Rattle.crossing.specs.Routed.{routeSays, Routed}
 use Rattle.router.specs.Entries.{routeChecks, Routes}
 
@@ -54,21 +47,6 @@ module _ (b : Book) (s d : ℕ) (passed : Passed (routeChecks b s d)) (a : Found
   -- 11: "no clear path, with the stage"
   pub eleven-exactly : (i : ℕ) → (routeSays a ≡ Reply.refusedWith 11 (i ∷ [])) ↔ (((cs : List ℕ) → ClearPath (b .n) (stopsOf b) s d cs → ⊥) × StageNamed (b .n) (stopsOf b) s d i)
   eleven-exactly i = eleven-routed (b .n) (stopsOf b) s d a (answers .routes passed) i
-
--- walking the tag that a route answered says clear
-pub route-walks-clear : (b : Book) (s d t : ℕ) → Passed (routeChecks b s d) → Routes b s d (Found.Tag t) → (a : Ended) → Walks b s t a → a ≡ Ended.Clear
-route-walks-clear b s d t passed answers a walks =
-    let n : ℕ = b .n in
-    let w = answers .routes passed in
-    let cs : List ℕ = w .0 in
-    let o = neither (s notBelow size n) (d notBelow size n) (passed-nth (routeChecks b s d) 1 passed) in
-    let label : s < size n = leb-false (size n) s (o .0) in
-    let steps = w .1 .clearPath .path .steps in
-    let back : stepsOf n s t ≡ cs = ap (stepsOf n s) (w .2) ∙ steps-come-back n s label cs steps in
-    let small : t < tags n = subst (λ (x : ℕ). x < tags n) (sym (w .2)) (normal-is-tag n s label cs (steps .stages)) in
-    let ok : Passed (walkChecks b s t) = passes (passed-nth (routeChecks b s d) 0 passed) (passes (o .0) (passes (lt-leb (tags n) t small) none)) in
-    let clear : Walked n (stopsOf b) s t Ended.Clear = (subst (Clear n (stopsOf b) s) (sym back) (w .1 .clearPath .clear), tag-arrives n s t label) in
-    walked-once n (stopsOf b) s t a Ended.Clear (walks .walks ok) clear
 
 -- a route depends on a book only through which links are stopped
 module _ (n : ℕ) (s d : ℕ) where

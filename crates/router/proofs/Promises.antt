@@ -12,12 +12,11 @@ use Rattle.table.specs.Checks.{Given, Given.here, Given.later, Passed, Passed.n
 use Rattle.table.proofs.Checks.{given-once, not-given-and-passed}
 use Rattle.fabric.specs.Labels.{size, outsideSizes}
 use Rattle.book.specs.declared.Book.{Book}
-use Rattle.book.specs.Standing.{standing, unused, unsound}
+use Rattle.book.specs.Standing.{standing, unused, unsound, stopsOf}
 use Rattle.standing.specs.Rising.{misfiled, littered}
 use Rattle.standing.proofs.Arrays.{none-left}
 use Rattle.crossing.specs.declared.Found.{Found}
 use Rattle.router.proofs.Filing.{last-true}
-use Rattle.walks.specs.Entries.{stopsOf}
 use Rattle.router.specs.Entries.{routeChecks, Routes}
 use Rattle.crossing.specs.Routed.{Routed}
 

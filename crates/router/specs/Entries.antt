@@ -9,8 +9,7 @@ use Rattle.fabric.specs.Labels.{size}
 use Rattle.crossing.specs.declared.Found.{Found}
 use Rattle.crossing.specs.Routed.{routeSays, Routed}
 use Rattle.book.specs.declared.Book.{Book}
-use Rattle.book.specs.Standing.{unsound}
-use Rattle.walks.specs.Entries.{stopsOf}
+use Rattle.book.specs.Standing.{unsound, stopsOf}
 
 -- "route: 16, 10", and then
 abbrev pub routeChecks : Book → ℕ → ℕ → List Check

@@ -14,9 +14,8 @@ ghost use mathlib.Core.Path.{_≡_};
 ghost use mathlib.Core.Bool.{true, false, cond};
 ghost use Prim.Native.Nat.{_≤_, _<_};
 ghost use Rattle.fabric.specs.Labels.{size};
-ghost use Rattle.book.specs.Standing.{standing, unsound};
+ghost use Rattle.book.specs.Standing.{standing, unsound, stopsOf};
 ghost use Rattle.standing.specs.Rising.{misfiled};
-ghost use Rattle.walks.specs.Entries.{stopsOf};
 ghost use Rattle.crossing.specs.Routed.{Routed};
 ghost use Rattle.router.specs.Entries.{Routes};
 

@@ -12,8 +12,7 @@ use lib.ListN.{length}
 use Rattle.table.specs.Checks.{_below_}
 use Rattle.notices.specs.declared.Notice.{Notice}
 use Rattle.notices.specs.Targets.{unfit}
-use Rattle.standing.specs.Rising.{stands, insert, without, Filed}
-use Rattle.standing.specs.Rising.{Distinct}
+use Rattle.standing.specs.Rising.{stands, insert, without, Filed, Distinct}
 
 abbrev pub Within : List Notice → List Notice → Type 0
 Within t s = (x : Notice) → List·Memᴰ x t → List·Memᴰ x s

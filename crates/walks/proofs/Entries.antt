@@ -17,7 +17,8 @@ use Rattle.scheme.proofs.Steps.{steps-of-tag, tag-arrives}
 use Rattle.book.specs.declared.Book.{Book}
 use Rattle.paths.specs.Clear.{Rule, Clear}
 use Rattle.walks.specs.declared.Ended.{Ended}
-use Rattle.walks.specs.Entries.{stopsOf, walkSays, walkChecks, FirstStopped, Walked, Walks}
+use Rattle.book.specs.Standing.{stopsOf}
+use Rattle.walks.specs.Entries.{walkSays, walkChecks, FirstStopped, Walked, Walks}
 
 -- answers that say one number alone are one answer
 pub ended-tells : (a b : Ended) (k : ℕ) → walkSays a ≡ refused k → walkSays b ≡ refused k → a ≡ b

@@ -9,7 +9,8 @@ use Rattle.table.specs.Checks.{Given, Passed}
 use Rattle.table.proofs.Checks.{given-once, not-given-and-passed}
 use Rattle.book.specs.declared.Book.{Book}
 use Rattle.walks.specs.declared.Ended.{Ended}
-use Rattle.walks.specs.Entries.{stopsOf, walkChecks, Walked, Walks}
+use Rattle.book.specs.Standing.{stopsOf}
+use Rattle.walks.specs.Entries.{walkChecks, Walked, Walks}
 
 module _ (b : Book) (s tag : ℕ) where
   pub walk-refuses : (r : Refusal) → Given (numberOf r) (walkChecks b s tag) → Walks b s tag (Ended.Refused r)

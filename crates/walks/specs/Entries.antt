@@ -11,13 +11,8 @@ use Rattle.fabric.specs.Walks.{walked, switchAt}
 use Rattle.scheme.specs.Tags.{tags, destination, stepsOf}
 use Rattle.paths.specs.Clear.{Rule, Clear}
 use Rattle.book.specs.declared.Book.{Book}
-use Rattle.book.specs.Standing.{standing, stopper, unsound}
+use Rattle.book.specs.Standing.{stopsOf, unsound}
 use Rattle.walks.specs.declared.Ended.{Ended}
-
--- which links a book stops, and the lowest number that does. `clear-since` of promises says that these are the links that the notices
--- accepted and not withdrawn since name.
-abbrev pub stopsOf : Book → Rule
-stopsOf b i j c = stopper (b .n) (standing b) i j c
 
 -- the number and values of each answer: 11 comes with a stage
 abbrev pub walkSays : Ended → Reply

@@ -7,7 +7,8 @@ ghost use Prim.Native.Nat.{_≤_, _<_};
 ghost use lib.Dec.{eqb};
 ghost use Rattle.fabric.specs.Labels.{size};
 ghost use Rattle.scheme.specs.Tags.{destination};
-ghost use Rattle.walks.specs.Entries.{stopsOf, Walked, Walks};
+ghost use Rattle.book.specs.Standing.{stopsOf};
+ghost use Rattle.walks.specs.Entries.{Walked, Walks};
 
 // What a walk answers: clear, the first stage whose link is stopped, or that it ended away from its tag's destination.
 pub enum Ended {

@@ -6,7 +6,7 @@ use borrow.Author.Needs.{needs}
 use Rattle.fabric.specs.Labels.{size}
 use Rattle.fabric.specs.Walks.{switchAt, walked}
 use Rattle.scheme.specs.Tags.{stepsOf}
-use Rattle.walks.specs.Entries.{stopsOf}
+use Rattle.book.specs.Standing.{stopsOf}
 use Rattle.walks.proofs.Walking.{ClearUpTo, clear-more, stopped-here, next-switch, walk-ends}
 use Rattle.walks.proofs.along.Statement.{statement}
 use Rattle.walks.proofs.along.Tie as tie

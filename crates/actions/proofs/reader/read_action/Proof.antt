@@ -3,9 +3,8 @@ use mathlib.Core.Path.{refl, sym, ap, _∙_}
 use borrow.Author.Needs.{needs}
 use Rattle.table.specs.Reply.{Reply.accepted}
 use Rattle.table.specs.Checks.{Given.here, Given.later, Passed.none, Passed.passes}
-use Rattle.table.proofs.Checks.{by-test, refusing}
+use Rattle.table.proofs.Checks.{by-test, refusing, equal, unequal}
 use Rattle.actions.specs.Format.{layoutFault}
-use Rattle.table.proofs.Checks.{equal, unequal}
 use Rattle.actions.proofs.Promises.{action-refuses, action-accepts}
 use Rattle.actions.proofs.reader.read_action.Statement.{statement}
 use Rattle.actions.proofs.reader.read_action.Tie as tie

@@ -10,11 +10,10 @@ use lib.ListN.{length, take, drop, getD, set, replicate, length-set}
 use Rattle.fabric.specs.Links.{lands}
 use Rattle.notices.specs.declared.Notice.{Notice}
 use Rattle.standing.specs.Rising.{filler, misfiled}
-use Rattle.book.specs.Standing.{stopper}
+use Rattle.book.specs.Standing.{stopper, stopsOf}
 use Rattle.standing.proofs.Arrays.{length-mapped, none-left-of}
 use Rattle.paths.specs.Frontier.{high}
 use Rattle.paths.proofs.Pivots.{high-lt}
-use Rattle.walks.specs.Entries.{stopsOf}
 use Rattle.router.specs.Marks.{Highs, tellsOf, marksAt}
 use Rattle.crossing.specs.Marked.{Marked, unmarked}
 use Rattle.router.proofs.Filing.{fit-column, unfit-there, misfiled-after, misfiled-there, filed-one}
