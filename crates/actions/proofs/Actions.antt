@@ -14,7 +14,7 @@ use Rattle.table.specs.Numbers.{numberOf}
 use Rattle.table.specs.Reply.{Reply.accepted, refused}
 use Rattle.table.specs.Checks.{Passed, Passed.none, Passed.passes, Given, Given.here, Given.later}
 use Rattle.table.proofs.Numbers.{number-tells}
-use Rattle.table.proofs.Checks.{passed-accepts, refused-given, accepted-says, passed-nth}
+use Rattle.table.proofs.Checks.{passed-accepts, refused-given, accepted-says, passed-nth, zero-one}
 use Rattle.notices.specs.declared.Target.{Target}
 use Rattle.notices.specs.declared.Target.the-variants.{Links, Switch, Pattern}
 use Rattle.notices.specs.Layout.{filingOf}
@@ -73,12 +73,10 @@ action-tells a b e = go (kind-of a) (kind-of b)
         q .1 ∙ ap Action.Refused (number-tells (q .0) (r .0) z) ∙ sym (r .1)
     go (inl q) (inr j) =
         let f : refused (numberOf (q .0)) ≡ accepted (bytesOf b) = ap actionSays (sym (q .1)) ∙ e ∙ action-says b j in
-        let z : _≡_ {A = ℕ} 0 1 = cc in
-        absurd (omega arith)
+        absurd (zero-one cc)
     go (inr i) (inl r) =
         let f : accepted (bytesOf a) ≡ refused (numberOf (r .0)) = sym (action-says a i) ∙ e ∙ ap actionSays (r .1) in
-        let z : _≡_ {A = ℕ} 0 1 = cc in
-        absurd (omega arith)
+        absurd (zero-one cc)
     go (inr i) (inr j) =
         let f : accepted (bytesOf a) ≡ accepted (bytesOf b) = sym (action-says a i) ∙ e ∙ action-says b j in
         let g : bytesOf a ≡ bytesOf b = cc in

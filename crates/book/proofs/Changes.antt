@@ -8,7 +8,7 @@ use native.Mathlib.Omega.{arith}
 use borrow.Author.Tests.{eqb-false, leb-false, le-ltb}
 use lib.ListN.{length, getD, replicate}
 use lib.Seq.{take-append-seam, drop-append-seam}
-use Rattle.table.proofs.Checks.{neither-of, given-refuses, passed-accepts, given-or-passed, passed-nth}
+use Rattle.table.proofs.Checks.{neither-of, given-refuses, passed-accepts, given-or-passed, passed-nth, zero-one}
 use Rattle.table.specs.Reply.{Reply, refused}
 use Rattle.table.specs.Checks.{Given, Passed, _when_, _below_}
 use Rattle.fabric.specs.Labels.{outsideSizes}
@@ -72,8 +72,7 @@ left : (a : Change) (b : Book) (k : ℕ) → Given k (changeChecks a b) → Left
 left a b k g = (
   (λ e.
       let r = given-refuses refused (Reply.accepted []) k (changeChecks a b) g in
-      let z : _≡_ {A = ℕ} 0 1 = cc in
-      absurd (omega arith)),
+      absurd (zero-one cc)),
   given-refuses (λ j. b) (changed a b) k (changeChecks a b) g,
 )
 
@@ -158,7 +157,7 @@ module _ (n : ℕ) (b : Book) (good : Good n b) where
       (λ w.
       ⊎-elim
       (λ e. inr (ap Change.file (sym e), w .0))
-      (λ h. inl (h, λ e. let z : _≡_ {A = ℕ} 0 1 = cc in absurd (omega arith)))
+      (λ h. inl (h, λ e. absurd (zero-one cc)))
       (insert-member x y (standing b) (rw (standing-filed y w) at m)))
       (λ w. inl (rw (w .1) at m, λ e. w .0))
       (taken-or-left (Change.file y) b)

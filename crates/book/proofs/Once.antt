@@ -3,6 +3,7 @@ use mathlib.Core.Path.{_≡_, refl, sym, ap, ap₂, _∙_}
 use mathlib.Core.List.{List}
 use Prim.Native.Nat.{ℕ}
 use native.Mathlib.Omega.{arith}
+use Rattle.table.proofs.Checks.{zero-one}
 use Rattle.table.specs.declared.Refusal.{Refusal}
 use Rattle.table.specs.Numbers.{numberOf}
 use Rattle.table.specs.Reply.{refused}
@@ -21,25 +22,25 @@ one-refusal v w e = let n : numberOf v ≡ numberOf w = cc in number-tells v w n
 
 pub answer-tells : (a b : Answer) → answerSays a ≡ answerSays b → a ≡ b
 answer-tells Answer.Done Answer.Done e = refl
-answer-tells Answer.Done (Answer.Refused w) e = let z : _≡_ {A = ℕ} 0 1 = cc in absurd (omega arith)
-answer-tells (Answer.Refused v) Answer.Done e = let z : _≡_ {A = ℕ} 0 1 = cc in absurd (omega arith)
+answer-tells Answer.Done (Answer.Refused w) e = absurd (zero-one cc)
+answer-tells (Answer.Refused v) Answer.Done e = absurd (zero-one cc)
 answer-tells (Answer.Refused v) (Answer.Refused w) e = ap Answer.Refused (one-refusal v w e)
 
 pub link-tells : (a b : Link) → linkSays a ≡ linkSays b → a ≡ b
 link-tells Link.Clear Link.Clear e = refl
-link-tells Link.Clear Link.Stopped e = let z : _≡_ {A = ℕ} 0 1 = cc in absurd (omega arith)
-link-tells Link.Clear (Link.Refused w) e = let z : _≡_ {A = ℕ} 0 1 = cc in absurd (omega arith)
-link-tells Link.Stopped Link.Clear e = let z : _≡_ {A = ℕ} 0 1 = cc in absurd (omega arith)
+link-tells Link.Clear Link.Stopped e = absurd (zero-one cc)
+link-tells Link.Clear (Link.Refused w) e = absurd (zero-one cc)
+link-tells Link.Stopped Link.Clear e = absurd (zero-one cc)
 link-tells Link.Stopped Link.Stopped e = refl
-link-tells Link.Stopped (Link.Refused w) e = let z : _≡_ {A = ℕ} 0 1 = cc in absurd (omega arith)
-link-tells (Link.Refused v) Link.Clear e = let z : _≡_ {A = ℕ} 0 1 = cc in absurd (omega arith)
-link-tells (Link.Refused v) Link.Stopped e = let z : _≡_ {A = ℕ} 0 1 = cc in absurd (omega arith)
+link-tells Link.Stopped (Link.Refused w) e = absurd (zero-one cc)
+link-tells (Link.Refused v) Link.Clear e = absurd (zero-one cc)
+link-tells (Link.Refused v) Link.Stopped e = absurd (zero-one cc)
 link-tells (Link.Refused v) (Link.Refused w) e = ap Link.Refused (one-refusal v w e)
 
 pub listing-tells : (a b : Listing) → listingSays a ≡ listingSays b → a ≡ b
 listing-tells (Listing.Listed j) (Listing.Listed k) e = let q : j ≡ k = cc in ap Listing.Listed q
-listing-tells (Listing.Listed j) (Listing.Refused w) e = let z : _≡_ {A = ℕ} 0 1 = cc in absurd (omega arith)
-listing-tells (Listing.Refused v) (Listing.Listed k) e = let z : _≡_ {A = ℕ} 0 1 = cc in absurd (omega arith)
+listing-tells (Listing.Listed j) (Listing.Refused w) e = absurd (zero-one cc)
+listing-tells (Listing.Refused v) (Listing.Listed k) e = absurd (zero-one cc)
 listing-tells (Listing.Refused v) (Listing.Refused w) e = ap Listing.Refused (one-refusal v w e)
 
 hands-back-once : (checks : List Check) (given made : Book) (q r : Kept) → HandsBack checks given made q → HandsBack checks given made r → q ≡ r

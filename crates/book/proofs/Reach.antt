@@ -9,7 +9,7 @@ use native.Mathlib.Omega.{arith}
 use borrow.Author.Tests.{ne-eqb, lt-leb, le-ltb}
 use lib.Dec.{leb}
 use lib.ListN.{length, replicate}
-use Rattle.table.proofs.Checks.{neither, neither-of}
+use Rattle.table.proofs.Checks.{neither, neither-of, zero-one}
 use Rattle.table.specs.Reply.{Reply, refused}
 use Rattle.table.specs.Checks.{Passed, Passed.none, Passed.passes, _notBelow_, checked}
 use Rattle.fabric.specs.Labels.{outsideSizes}
@@ -47,8 +47,7 @@ refused-opening-unsound n size = rw size
 opens-size : (n : ℕ) (b : Bool) → outsideSizes n ≡ b → checked (openChecks n) refused (Reply.accepted []) ≡ Reply.accepted [] → outsideSizes n ≡ false
 opens-size n true e h =
     let r : refused 1 ≡ Reply.accepted [] = rw e at h in
-    let z : _≡_ {A = ℕ} 0 1 = cc in
-    absurd (omega arith)
+    absurd (zero-one cc)
 opens-size n false e h = e
 
 -- "a book that an accepted opening, filing and withdrawing cannot produce": one that they produce passes

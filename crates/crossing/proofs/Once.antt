@@ -4,6 +4,7 @@ use mathlib.Core.List.{List, [], _∷_}
 use mathlib.Core.Logic.{_↔_}
 use Prim.Native.Nat.{ℕ}
 use native.Mathlib.Omega.{arith}
+use Rattle.table.proofs.Checks.{zero-one}
 use Rattle.table.specs.Numbers.{numberOf}
 use Rattle.table.specs.Reply.{Reply, refused}
 use Rattle.table.proofs.Numbers.{number-tells}
@@ -16,10 +17,10 @@ use Rattle.crossing.specs.Routed.{routeSays, Routed}
 
 -- answers that say one number alone are one answer
 pub found-tells : (a b : Found) (k : ℕ) → routeSays a ≡ refused k → routeSays b ≡ refused k → a ≡ b
-found-tells (Found.Tag t) b k e f = let z : _≡_ {A = ℕ} 0 1 = cc in absurd (omega arith)
-found-tells (Found.None i) b k e f = let z : _≡_ {A = ℕ} 0 1 = cc in absurd (omega arith)
-found-tells (Found.Refused q) (Found.Tag t) k e f = let z : _≡_ {A = ℕ} 0 1 = cc in absurd (omega arith)
-found-tells (Found.Refused q) (Found.None j) k e f = let z : _≡_ {A = ℕ} 0 1 = cc in absurd (omega arith)
+found-tells (Found.Tag t) b k e f = absurd (zero-one cc)
+found-tells (Found.None i) b k e f = absurd (zero-one cc)
+found-tells (Found.Refused q) (Found.Tag t) k e f = absurd (zero-one cc)
+found-tells (Found.Refused q) (Found.None j) k e f = absurd (zero-one cc)
 found-tells (Found.Refused q) (Found.Refused r) k e f = let z : numberOf q ≡ numberOf r = cc in ap Found.Refused (number-tells q r z)
 
 -- over one rule, a route has one answer
@@ -40,6 +41,6 @@ module _ (n : ℕ) (stops : Rule) where
   eleven-routed s d a routed i = (told a routed, λ w. ap routeSays (routed-once s d a (Found.None i) routed w))
     where
       told : (x : Found) → Routed n stops s d x → routeSays x ≡ Reply.refusedWith 11 (i ∷ []) → ((cs : List ℕ) → ClearPath n stops s d cs → ⊥) × StageNamed n stops s d i
-      told (Found.Tag t) w e = let z : _≡_ {A = ℕ} 0 1 = cc in absurd (omega arith)
+      told (Found.Tag t) w e = absurd (zero-one cc)
       told (Found.None j) w e = let z : j ≡ i = cc in subst (λ (k : ℕ). Routed n stops s d (Found.None k)) z w
       told (Found.Refused r) w e = absurd w

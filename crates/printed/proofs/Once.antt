@@ -9,7 +9,7 @@ use Rattle.table.specs.Numbers.{numberOf}
 use Rattle.table.specs.Reply.{Reply.accepted}
 use Rattle.table.specs.Checks.{Given, Passed}
 use Rattle.table.proofs.Numbers.{number-tells}
-use Rattle.table.proofs.Checks.{given-or-passed}
+use Rattle.table.proofs.Checks.{given-or-passed, zero-one}
 use Rattle.book.specs.declared.Book.{Book}
 use Rattle.book.specs.declared.Kept.{Kept}
 use Rattle.book.proofs.Once.{opens-once}
@@ -37,8 +37,8 @@ prints-once sheet (Header.Refused why) x y p q = p ∙ sym q
 
 ran-tells : (a b : Ran) → ranSays a ≡ ranSays b → a ≡ b
 ran-tells (Ran.Printed i) (Ran.Printed j) e = let z : i ≡ j = cc in ap Ran.Printed z
-ran-tells (Ran.Printed i) (Ran.Refused r) e = let z : _≡_ {A = ℕ} 0 1 = cc in absurd (omega arith)
-ran-tells (Ran.Refused q) (Ran.Printed j) e = let z : _≡_ {A = ℕ} 0 1 = cc in absurd (omega arith)
+ran-tells (Ran.Printed i) (Ran.Refused r) e = absurd (zero-one cc)
+ran-tells (Ran.Refused q) (Ran.Printed j) e = absurd (zero-one cc)
 ran-tells (Ran.Refused q) (Ran.Refused r) e = let z : numberOf q ≡ numberOf r = cc in ap Ran.Refused (number-tells q r z)
 
 runs-by-once : (sheet : List ℕ) (h : Header) (before : List ℕ) (q r : Ran) (x y : List ℕ)

@@ -12,7 +12,7 @@ use lib.ListN.{length, drop, length-append}
 use Rattle.table.specs.declared.Refusal.{Refusal}
 use Rattle.table.specs.Reply.{Reply.accepted, refused}
 use Rattle.table.specs.Checks.{Given, Given.here, Passed, Passed.none, Passed.passes, _below_}
-use Rattle.table.proofs.Checks.{given-or-passed, given-once, not-given-and-passed, passed-nth, neither}
+use Rattle.table.proofs.Checks.{given-or-passed, given-once, not-given-and-passed, passed-nth, neither, zero-one}
 use Rattle.sheet.specs.declared.Header.{Header}
 use Rattle.sheet.specs.Format.{sizeIn, countIn, bytesBefore}
 use Rattle.sheet.specs.Entries.{headerChecks, ReadsHeader}
@@ -59,8 +59,7 @@ runs-fit {sheet} {before} {after} {r} {bytes} w e = go (given-or-passed (runChec
     go : ((k : ℕ) × Given k (runChecks (w .header) before)) ⊎ Passed (runChecks (w .header) before) → bytes ≤ length after
     go (inl g) =
         let f : accepted (bytes ∷ []) ≡ refused (g .0) = sym (ap ranSays e) ∙ w .runs .refuses (g .0) (g .1) .0 in
-        let z : _≡_ {A = ℕ} 0 1 = cc in
-        absurd (omega arith)
+        absurd (zero-one cc)
     go (inr p) =
         let q = w .runs .prints p in
         let f : accepted (bytes ∷ []) ≡ accepted (length (q .0) ∷ []) = sym (ap ranSays e) ∙ q .2 in
@@ -83,8 +82,7 @@ runs-within {sheet} {before} {after} {r} {bytes} w e = go (given-or-passed (runC
     go : ((k : ℕ) × Given k (runChecks (w .header) before)) ⊎ Passed (runChecks (w .header) before) → bytes ≤ 196632
     go (inl g) =
         let f : accepted (bytes ∷ []) ≡ refused (g .0) = sym (ap ranSays e) ∙ w .runs .refuses (g .0) (g .1) .0 in
-        let z : _≡_ {A = ℕ} 0 1 = cc in
-        absurd (omega arith)
+        absurd (zero-one cc)
     go (inr p) =
         let q = w .runs .prints p in
         let f : accepted (bytes ∷ []) ≡ accepted (length (q .0) ∷ []) = sym (ap ranSays e) ∙ q .2 in

@@ -12,7 +12,7 @@ use lib.ListN.{length}
 use Rattle.table.specs.Numbers.{numberOf}
 use Rattle.table.specs.Reply.{Reply.accepted, refused}
 use Rattle.table.specs.Checks.{Passed, _below_}
-use Rattle.table.proofs.Checks.{given-or-passed, passed-accepts, passed-nth, accepted-passed, neither}
+use Rattle.table.proofs.Checks.{given-or-passed, passed-accepts, passed-nth, accepted-passed, neither, zero-one}
 use Rattle.fabric.specs.Labels.{outsideSizes}
 use Rattle.fabric.specs.Walks.{walked}
 use Rattle.scheme.specs.Tags.{steered}
@@ -42,10 +42,10 @@ use Rattle.promises.proofs.Examples.{row-holds}
 
 -- a route that names a stage has passed 16 and 10
 none-routed : (b : Book) (s d i : ℕ) → Routes b s d (Found.None i) → Routed (b .n) (stopsOf b) s d (Found.None i)
-none-routed b s d i p = ⊎-elim (λ g. let e = p .refuses (g .0) (g .1) in let z : _≡_ {A = ℕ} 0 1 = cc in absurd (omega arith)) (p .routes) (given-or-passed (routeChecks b s d))
+none-routed b s d i p = ⊎-elim (λ g. let e = p .refuses (g .0) (g .1) in absurd (zero-one cc)) (p .routes) (given-or-passed (routeChecks b s d))
 
 tag-passed : (b : Book) (s d t : ℕ) → Routes b s d (Found.Tag t) → Passed (routeChecks b s d)
-tag-passed b s d t p = ⊎-elim (λ g. let e = p .refuses (g .0) (g .1) in let z : _≡_ {A = ℕ} 0 1 = cc in absurd (omega arith)) (λ w. w) (given-or-passed (routeChecks b s d))
+tag-passed b s d t p = ⊎-elim (λ g. let e = p .refuses (g .0) (g .1) in absurd (zero-one cc)) (λ w. w) (given-or-passed (routeChecks b s d))
 
 -- the empty book of example 1, that of example 2, and a second notice, on another link
 abbrev empty : Book
@@ -69,7 +69,7 @@ clear-names-none b i j code p x member named =
   where
     zero-if : (t : Bool) → eqb (stopper (b .n) (standing b) i j code) 0 ≡ t → accepted (0 ∷ []) ≡ accepted (cond t 0 1 ∷ []) → stopper (b .n) (standing b) i j code ≡ 0
     zero-if true q e = eqb-true _ 0 q
-    zero-if false q e = let z : _≡_ {A = ℕ} 0 1 = cc in absurd (omega arith)
+    zero-if false q e = absurd (zero-one cc)
 
 module _ (c : Controller) (keeps : Keeps c) where
   -- "one that says 11 to every route"
@@ -78,8 +78,7 @@ module _ (c : Controller) (keeps : Keeps c) where
       let right = row-holds 0 .1 in
       let e = says empty 1 0 (tag-passed empty 1 0 0 right) in
       let f : Found.None (e .0) ≡ Found.Tag 0 = sym (e .1) ∙ route-once empty 1 0 _ _ (keeps .routes empty 1 0) right in
-      let z : _≡_ {A = ℕ} 0 1 = cc in
-      omega arith
+      zero-one cc
 
   -- "one that gives tag 0 always"
   pub not-tag-zero-always : GivesTagZeroAlways c → ⊥
@@ -99,8 +98,7 @@ module _ (c : Controller) (keeps : Keeps c) where
   not-every-filing-refused refuses =
       let w = refuses empty second in
       let e : refused (numberOf (w .0)) ≡ accepted [] = ap answerSays (sym (w .1)) ∙ keeps .files empty second .says in
-      let z : _≡_ {A = ℕ} 0 1 = cc in
-      omega arith
+      zero-one cc
 
   -- a filing that is accepted and names a clear link stops it
   shows : (b : Book) (x : Notice) (i j code : ℕ)

@@ -11,7 +11,7 @@ use lib.Seq.{length-take-le, getD-take}
 use Rattle.table.specs.Numbers.{numberOf}
 use Rattle.table.specs.Checks.{Passed.none, _below_}
 use Rattle.table.proofs.Numbers.{number-tells}
-use Rattle.table.proofs.Checks.{passed-accepts, neither}
+use Rattle.table.proofs.Checks.{passed-accepts, neither, zero-one}
 use Rattle.sheet.specs.declared.Header.{Header}
 use Rattle.sheet.specs.declared.There.{There}
 use Rattle.actions.specs.Format.{word}
@@ -26,14 +26,14 @@ header-tells (Header.Sheet n count) (Header.Sheet m many) e =
     let same : n ≡ m = cc in
     let often : count ≡ many = cc in
     rw (same, often)
-header-tells (Header.Sheet n count) (Header.Refused r) e = let z : _≡_ {A = ℕ} 0 1 = cc in absurd (omega arith)
-header-tells (Header.Refused q) (Header.Sheet n count) e = let z : _≡_ {A = ℕ} 0 1 = cc in absurd (omega arith)
+header-tells (Header.Sheet n count) (Header.Refused r) e = absurd (zero-one cc)
+header-tells (Header.Refused q) (Header.Sheet n count) e = absurd (zero-one cc)
 header-tells (Header.Refused q) (Header.Refused r) e = let z : numberOf q ≡ numberOf r = cc in ap Header.Refused (number-tells q r z)
 
 pub there-tells : (a b : There) → thereSays a ≡ thereSays b → a ≡ b
 there-tells There.Yes There.Yes e = refl
-there-tells There.Yes (There.Refused r) e = let z : _≡_ {A = ℕ} 0 1 = cc in absurd (omega arith)
-there-tells (There.Refused q) There.Yes e = let z : _≡_ {A = ℕ} 0 1 = cc in absurd (omega arith)
+there-tells There.Yes (There.Refused r) e = absurd (zero-one cc)
+there-tells (There.Refused q) There.Yes e = absurd (zero-one cc)
 there-tells (There.Refused q) (There.Refused r) e = let z : numberOf q ≡ numberOf r = cc in ap There.Refused (number-tells q r z)
 
 -- no second answer

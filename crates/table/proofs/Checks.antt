@@ -11,6 +11,10 @@ use lib.ListN.{getD}
 use Rattle.table.specs.Reply.{Reply.accepted, refused}
 use Rattle.table.specs.Checks.{Check, _when_, _below_, _notBelow_, checked, Given, Given.here, Given.later, Passed, Passed.none, Passed.passes}
 
+-- what two cases that cannot be equal come to: `zero-one cc`
+pub zero-one : _≡_ {A = ℕ} 0 1 → ⊥
+zero-one e = omega arith
+
 module _ {A : Type 0} (refuse : ℕ → A) (accept : A) where
   pub given-refuses : (k : ℕ) (cs : List Check) → Given k cs → checked cs refuse accept ≡ refuse k
   given-refuses k (c ∷ cs) (here h e) = rw (h, e)
@@ -47,8 +51,7 @@ accepted-passed cs v w e = go (given-or-passed cs)
     go : ((k : ℕ) × Given k cs) ⊎ Passed cs → Passed cs
     go (inl g) =
         let f : accepted w ≡ refused (g .0) = e ∙ given-refuses refused (accepted v) (g .0) cs (g .1) in
-        let z : _≡_ {A = ℕ} 0 1 = cc in
-        absurd (omega arith)
+        absurd (zero-one cc)
     go (inr p) = p
 
 -- an entry that refuses was given its number by its checks
@@ -62,8 +65,7 @@ refused-given cs v k e = go (given-or-passed cs)
         rw same at (g .1)
     go (inr p) =
         let f : refused k ≡ accepted v = e ∙ passed-accepts refused (accepted v) cs p in
-        let z : _≡_ {A = ℕ} 0 1 = cc in
-        absurd (omega arith)
+        absurd (zero-one cc)
 
 -- and one that accepts says what an accepted call gives
 pub accepted-says : (cs : List Check) (v w : List ℕ) → accepted w ≡ checked cs refused (accepted v) → w ≡ v

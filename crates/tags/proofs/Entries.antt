@@ -11,7 +11,7 @@ use Rattle.table.specs.Numbers.{numberOf}
 use Rattle.table.specs.Reply.{Reply, Reply.accepted, refused}
 use Rattle.table.specs.Checks.{checked, Passed, Passed.none, Passed.passes, _when_, _below_}
 use Rattle.table.proofs.Numbers.{number-tells}
-use Rattle.table.proofs.Checks.{passed-accepts, accepted-passed, passed-nth}
+use Rattle.table.proofs.Checks.{passed-accepts, accepted-passed, passed-nth, zero-one}
 use Rattle.fabric.specs.Labels.{size}
 use Rattle.fabric.specs.Walks.{Codes, Steps}
 use Rattle.tags.specs.declared.Written.{Written}
@@ -24,14 +24,14 @@ use Rattle.scheme.proofs.NormalTags.{normal-is-tag, steps-come-back, normal-kee
 -- an answer is known by what it says
 pub written-tells : (a b : Written) → writtenSays a ≡ writtenSays b → a ≡ b
 written-tells Written.Done Written.Done e = refl
-written-tells Written.Done (Written.Refused r) e = let z : _≡_ {A = ℕ} 0 1 = cc in absurd (omega arith)
-written-tells (Written.Refused r) Written.Done e = let z : _≡_ {A = ℕ} 0 1 = cc in absurd (omega arith)
+written-tells Written.Done (Written.Refused r) e = absurd (zero-one cc)
+written-tells (Written.Refused r) Written.Done e = absurd (zero-one cc)
 written-tells (Written.Refused q) (Written.Refused r) e = let z : numberOf q ≡ numberOf r = cc in ap Written.Refused (number-tells q r z)
 
 pub tag-tells : (a b : Tag) → tagSays a ≡ tagSays b → a ≡ b
 tag-tells (Tag.Normal t) (Tag.Normal u) e = let z : t ≡ u = cc in ap Tag.Normal z
-tag-tells (Tag.Normal t) (Tag.Refused r) e = let z : _≡_ {A = ℕ} 0 1 = cc in absurd (omega arith)
-tag-tells (Tag.Refused r) (Tag.Normal t) e = let z : _≡_ {A = ℕ} 0 1 = cc in absurd (omega arith)
+tag-tells (Tag.Normal t) (Tag.Refused r) e = absurd (zero-one cc)
+tag-tells (Tag.Refused r) (Tag.Normal t) e = absurd (zero-one cc)
 tag-tells (Tag.Refused q) (Tag.Refused r) e = let z : numberOf q ≡ numberOf r = cc in ap Tag.Refused (number-tells q r z)
 
 -- no second answer

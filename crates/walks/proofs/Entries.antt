@@ -10,7 +10,7 @@ use Rattle.table.specs.Numbers.{numberOf}
 use Rattle.table.specs.Reply.{Reply, refused}
 use Rattle.table.specs.Checks.{Passed}
 use Rattle.table.proofs.Numbers.{number-tells, below-seventeen}
-use Rattle.table.proofs.Checks.{given-or-passed, passed-nth}
+use Rattle.table.proofs.Checks.{given-or-passed, passed-nth, zero-one}
 use Rattle.fabric.specs.Labels.{size}
 use Rattle.scheme.specs.Tags.{stepsOf}
 use Rattle.scheme.proofs.Steps.{steps-of-tag, tag-arrives}
@@ -22,14 +22,14 @@ use Rattle.walks.specs.Entries.{walkSays, walkChecks, FirstStopped, Walk
 
 -- answers that say one number alone are one answer
 pub ended-tells : (a b : Ended) (k : ℕ) → walkSays a ≡ refused k → walkSays b ≡ refused k → a ≡ b
-ended-tells Ended.Clear b k e f = let z : _≡_ {A = ℕ} 0 1 = cc in absurd (omega arith)
-ended-tells (Ended.Stopped i) b k e f = let z : _≡_ {A = ℕ} 0 1 = cc in absurd (omega arith)
-ended-tells Ended.Astray Ended.Clear k e f = let z : _≡_ {A = ℕ} 0 1 = cc in absurd (omega arith)
-ended-tells Ended.Astray (Ended.Stopped j) k e f = let z : _≡_ {A = ℕ} 0 1 = cc in absurd (omega arith)
+ended-tells Ended.Clear b k e f = absurd (zero-one cc)
+ended-tells (Ended.Stopped i) b k e f = absurd (zero-one cc)
+ended-tells Ended.Astray Ended.Clear k e f = absurd (zero-one cc)
+ended-tells Ended.Astray (Ended.Stopped j) k e f = absurd (zero-one cc)
 ended-tells Ended.Astray Ended.Astray k e f = refl
 ended-tells Ended.Astray (Ended.Refused r) k e f = let z : 17 ≡ numberOf r = cc in (let l = below-seventeen r in absurd (omega arith))
-ended-tells (Ended.Refused q) Ended.Clear k e f = let z : _≡_ {A = ℕ} 0 1 = cc in absurd (omega arith)
-ended-tells (Ended.Refused q) (Ended.Stopped j) k e f = let z : _≡_ {A = ℕ} 0 1 = cc in absurd (omega arith)
+ended-tells (Ended.Refused q) Ended.Clear k e f = absurd (zero-one cc)
+ended-tells (Ended.Refused q) (Ended.Stopped j) k e f = absurd (zero-one cc)
 ended-tells (Ended.Refused q) Ended.Astray k e f = let z : 17 ≡ numberOf q = cc in (let l = below-seventeen q in absurd (omega arith))
 ended-tells (Ended.Refused q) (Ended.Refused r) k e f = let z : numberOf q ≡ numberOf r = cc in ap Ended.Refused (number-tells q r z)
 
@@ -79,9 +79,9 @@ module _ (b : Book) (s tag : ℕ) (passed : Passed (walkChecks b s tag)) (a : En
   )
     where
       told : (x : Ended) → Walked (b .n) (stopsOf b) s tag x → walkSays x ≡ Reply.refusedWith 11 (i ∷ []) → FirstStopped (b .n) (stopsOf b) s (stepsOf (b .n) s tag) i
-      told Ended.Clear w e = let z : _≡_ {A = ℕ} 0 1 = cc in absurd (omega arith)
+      told Ended.Clear w e = absurd (zero-one cc)
       told (Ended.Stopped j) w e = let z : j ≡ i = cc in subst (FirstStopped (b .n) (stopsOf b) s (stepsOf (b .n) s tag)) z w
-      told Ended.Astray w e = let z : _≡_ {A = ℕ} 0 1 = cc in absurd (omega arith)
+      told Ended.Astray w e = absurd (zero-one cc)
       told (Ended.Refused r) w e = absurd w
 
   -- 17 is never given: "a walk ended away from its tag's destination", and none does (document 000, theorem 3.1)
@@ -89,7 +89,7 @@ module _ (b : Book) (s tag : ℕ) (passed : Passed (walkChecks b s tag)) (a : En
   seventeen-never = told a (answers .walks passed)
     where
       told : (x : Ended) → Walked (b .n) (stopsOf b) s tag x → walkSays x ≡ refused 17 → ⊥
-      told Ended.Clear w e = let z : _≡_ {A = ℕ} 0 1 = cc in omega arith
-      told (Ended.Stopped j) w e = let z : _≡_ {A = ℕ} 0 1 = cc in omega arith
+      told Ended.Clear w e = zero-one cc
+      told (Ended.Stopped j) w e = zero-one cc
       told Ended.Astray w e = w .1 (tag-arrives (b .n) s tag (leb-false (size (b .n)) s (passed-nth (walkChecks b s tag) 1 passed)))
       told (Ended.Refused r) w e = absurd w
