@@ -1,0 +1,57 @@
+-- The number of each case.
+use borrow.Author.Needs.{needs}
+use Rattle.face.proofs.numbers.ended.Statement.{statement}
+use Rattle.face.proofs.numbers.ended.Tie as tie
+
+enum-told : tie.Need-enum-told
+enum-told c = search needs
+
+enum-known-answer : tie.Need-enum-known-answer
+enum-known-answer c = search needs
+
+cast-result : tie.Need-cast-result
+cast-result c = search needs
+
+mul-result : tie.Need-mul-result
+mul-result c = search needs
+
+add-result : tie.Need-add-result
+add-result c = search needs
+
+enum-told-2 : tie.Need-enum-told-2
+enum-told-2 c = search needs
+
+enum-known-answer-2 : tie.Need-enum-known-answer-2
+enum-known-answer-2 c = search needs
+
+refused-requires : tie.Need-refused-requires
+refused-requires c κs = search needs
+
+returns : tie.Need-returns
+returns c = search needs
+
+returns-2 : tie.Need-returns-2
+returns-2 c = rw (c .before .answer .given .1)
+
+returns-3 : tie.Need-returns-3
+returns-3 c = search needs
+
+returns-4 : tie.Need-returns-4
+returns-4 c = rw (c .refused .ensures, c .before .before .answer2 .given .1)
+
+pub ended-spec : {M : Type 1} → statement M
+ended-spec =
+    tie.close
+    (tie.spec
+    enum-told
+    enum-known-answer
+    cast-result
+    mul-result
+    add-result
+    enum-told-2
+    enum-known-answer-2
+    refused-requires
+    returns
+    returns-2
+    returns-3
+    returns-4)

@@ -1,0 +1,22 @@
+-- The number of each case.
+use borrow.Author.Needs.{needs}
+use Rattle.face.proofs.numbers.written.Statement.{statement}
+use Rattle.face.proofs.numbers.written.Tie as tie
+
+enum-told : tie.Need-enum-told
+enum-told c = search needs
+
+enum-known-answer : tie.Need-enum-known-answer
+enum-known-answer c = search needs
+
+refused-requires : tie.Need-refused-requires
+refused-requires c κs = search needs
+
+returns : tie.Need-returns
+returns c = search needs
+
+returns-2 : tie.Need-returns-2
+returns-2 c = rw (c .refused .ensures, c .before .before .answer .given .1)
+
+pub written-spec : {M : Type 1} → statement M
+written-spec = tie.close (tie.spec enum-told enum-known-answer refused-requires returns returns-2)

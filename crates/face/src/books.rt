@@ -1,0 +1,42 @@
+// The book that a host hands over as a sheet.
+use actions::Action;
+use book::Book;
+ghost use Rattle.face.specs.Books.{Leaves, After};
+
+// The book after the first `count` actions of a sheet, its routes passed over.
+pub fn after_all(sheet: &[u8], n: u8, count: u16) -> Book
+    ensures { λ r. ⌜ After (now (sheet .entry)) n count r ⌝ }
+{
+    let opened = Book::open(n);
+    let mut book = opened.book;
+    let mut k: usize = 0;
+    while k < count as usize {
+        let part = sheet::action_part(sheet, k);
+        let action = actions::read_action(part);
+        book = after_one(book, action);
+        k += 1;
+    }
+    book
+}
+
+fn after_one(book: Book, action: Action) -> Book
+    ensures { λ r. ⌜ Leaves action book r ⌝ }
+{
+    match action {
+        Action::File(notice) => {
+            let kept = book.file(notice);
+            let after = kept.book;
+            after
+        }
+        Action::Withdraw(k) => {
+            let kept = book.withdraw(k);
+            let after = kept.book;
+            after
+        }
+        Action::Route {
+            source: _,
+            destination: _,
+        } => book,
+        Action::Refused(_) => book,
+    }
+}

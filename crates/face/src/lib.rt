@@ -1,0 +1,252 @@
+// Document 01's entries for C and Rust: numbers and byte slices alone. include/tabashfar.h says how a host calls them. An answer is one
+// number (`packed`): its low byte is the table's number, 0 where the call was accepted, and the bits from 8 on hold the value.
+mod numbers; // numbers.rt: an answer as one number
+mod books; // books.rt: the book that a sheet makes
+
+use book::Book;
+use books::after_all;
+use notices::Notice;
+use notices::Target;
+use numbers::action_kind;
+use numbers::answered;
+use numbers::ended;
+use numbers::found;
+use numbers::header_told;
+use numbers::link_told;
+use numbers::listed;
+use numbers::ran;
+use numbers::refused;
+use numbers::tag_told;
+use numbers::there_told;
+use numbers::written;
+use sheet::Header;
+use sheet::There;
+ghost use mathlib.Core.Path.{_≡_};
+ghost use Prim.Native.Nat.{_+_, _*_};
+ghost use lib.ListN.{length};
+ghost use Rattle.tags.specs.Entries.{writtenSays, tagSays, TagToSteps, StepsToTag, NormalForm};
+ghost use Rattle.notices.specs.declared.Target.the-variants.{Links, Switch, Pattern};
+ghost use Rattle.book.specs.Entries.{linkSays, Opens, Files, Withdraws, Tests};
+ghost use Rattle.walks.specs.Entries.{walkSays, Walks};
+ghost use Rattle.crossing.specs.Routed.{routeSays};
+ghost use Rattle.router.specs.Entries.{Routes};
+ghost use Rattle.actions.specs.Entries.{ReadsAction};
+ghost use Rattle.sheet.specs.Entries.{headerSays, thereSays, ReadsHeader, HasAction, startOf, partOf};
+ghost use Rattle.printed.specs.Runs.{ranSays, Runs};
+ghost use Rattle.face.specs.Packed.{kindSays, keptSays, Tells};
+ghost use Rattle.face.specs.Books.{OverSheet, ListsOver};
+
+// "tag to steps (n, source, tag, memory)"
+#[no_mangle]
+pub extern "C" fn tabashfar_tag_to_steps(n: u8, source: u16, tag: u32, memory: &mut [u8]) -> u64
+    ensures { λ r. ⌜ Tells (λ a. TagToSteps n source tag (now (memory .entry)) a (now (memory .exit))) writtenSays r ⌝ }
+{
+    written(tags::tag_to_steps(n, source, tag, memory))
+}
+
+// "steps to tag (n, source, memory)"
+#[no_mangle]
+pub extern "C" fn tabashfar_steps_to_tag(n: u8, source: u16, memory: &[u8]) -> u64
+    ensures { λ r. ⌜ Tells (StepsToTag n source (now (memory .entry))) tagSays r ⌝ }
+{
+    tag_told(tags::steps_to_tag(n, source, memory))
+}
+
+// "normal form of a tag (n, source, tag)"
+#[no_mangle]
+pub extern "C" fn tabashfar_normal_form(n: u8, source: u16, tag: u32) -> u64
+    ensures { λ r. ⌜ Tells (NormalForm n source tag) tagSays r ⌝ }
+{
+    tag_told(tags::normal_form(n, source, tag))
+}
+
+// "open (n)"
+#[no_mangle]
+pub extern "C" fn tabashfar_open(n: u8) -> u64
+    ensures { λ r. ⌜ Tells (Opens n) keptSays r ⌝ }
+{
+    let kept = Book::open(n);
+    let answer = kept.answer;
+    answered(answer)
+}
+
+fn filed(sheet: &[u8], notice: Notice) -> u64
+    ensures { λ r. ⌜ OverSheet (now (sheet .entry)) (λ b. Tells (Files b notice) keptSays) r ⌝ }
+{
+    match sheet::read_header(sheet) {
+        Header::Sheet { n, count } => {
+            let kept = after_all(sheet, n, count).file(notice);
+            let answer = kept.answer;
+            answered(answer)
+        }
+        Header::Refused(why) => refused(why),
+    }
+}
+
+// "file", of each target
+#[no_mangle]
+pub extern "C" fn tabashfar_file_links(
+    sheet: &[u8],
+    number: u16,
+    stage: u8,
+    switch: u16,
+    set: u8,
+) -> u64
+    ensures { λ r. ⌜ OverSheet (now (sheet .entry)) (λ b. Tells (Files b (record { number = number; target = Links stage switch set })) keptSays) r ⌝ }
+{
+    filed(
+        sheet,
+        Notice {
+            number,
+            target: Target::Links { stage, switch, set },
+        },
+    )
+}
+
+#[no_mangle]
+pub extern "C" fn tabashfar_file_switch(sheet: &[u8], number: u16, column: u8, switch: u16) -> u64
+    ensures { λ r. ⌜ OverSheet (now (sheet .entry)) (λ b. Tells (Files b (record { number = number; target = Switch column switch })) keptSays) r ⌝ }
+{
+    filed(
+        sheet,
+        Notice {
+            number,
+            target: Target::Switch { column, switch },
+        },
+    )
+}
+
+#[no_mangle]
+pub extern "C" fn tabashfar_file_pattern(
+    sheet: &[u8],
+    number: u16,
+    stage: u8,
+    value: u16,
+    mask: u16,
+    set: u8,
+) -> u64
+    ensures { λ r. ⌜ OverSheet (now (sheet .entry)) (λ b. Tells (Files b (record { number = number; target = Pattern stage value mask set })) keptSays) r ⌝ }
+{
+    filed(
+        sheet,
+        Notice {
+            number,
+            target: Target::Pattern {
+                stage,
+                value,
+                mask,
+                set,
+            },
+        },
+    )
+}
+
+// "withdraw"
+#[no_mangle]
+pub extern "C" fn tabashfar_withdraw(sheet: &[u8], number: u16) -> u64
+    ensures { λ r. ⌜ OverSheet (now (sheet .entry)) (λ b. Tells (Withdraws b number) keptSays) r ⌝ }
+{
+    match sheet::read_header(sheet) {
+        Header::Sheet { n, count } => {
+            let kept = after_all(sheet, n, count).withdraw(number);
+            let answer = kept.answer;
+            answered(answer)
+        }
+        Header::Refused(why) => refused(why),
+    }
+}
+
+// "link stopped or not"
+#[no_mangle]
+pub extern "C" fn tabashfar_link(sheet: &[u8], stage: u8, switch: u16, code: u8) -> u64
+    ensures { λ r. ⌜ OverSheet (now (sheet .entry)) (λ b. Tells (Tests b stage switch code) linkSays) r ⌝ }
+{
+    match sheet::read_header(sheet) {
+        Header::Sheet { n, count } => link_told(after_all(sheet, n, count).link(
+            stage,
+            switch,
+            code,
+        )),
+        Header::Refused(why) => refused(why),
+    }
+}
+
+// "route"
+#[no_mangle]
+pub extern "C" fn tabashfar_route(sheet: &[u8], source: u16, destination: u16) -> u64
+    ensures { λ r. ⌜ OverSheet (now (sheet .entry)) (λ b. Tells (Routes b source destination) routeSays) r ⌝ }
+{
+    match sheet::read_header(sheet) {
+        Header::Sheet { n, count } => found(router::route(
+            after_all(sheet, n, count),
+            source,
+            destination,
+        )),
+        Header::Refused(why) => refused(why),
+    }
+}
+
+// "walk (book, source, tag)"
+#[no_mangle]
+pub extern "C" fn tabashfar_walk(sheet: &[u8], source: u16, tag: u32) -> u64
+    ensures { λ r. ⌜ OverSheet (now (sheet .entry)) (λ b. Tells (Walks b source tag) walkSays) r ⌝ }
+{
+    match sheet::read_header(sheet) {
+        Header::Sheet { n, count } => ended(walks::walk(after_all(sheet, n, count), source, tag)),
+        Header::Refused(why) => refused(why),
+    }
+}
+
+// "listing"
+#[no_mangle]
+pub extern "C" fn tabashfar_listing(sheet: &[u8], memory: &mut [u8]) -> u64
+    ensures { λ r. ⌜ ListsOver (now (sheet .entry)) (now (memory .entry)) (now (memory .exit)) r ⌝ }
+{
+    match sheet::read_header(sheet) {
+        Header::Sheet { n, count } => listed(after_all(sheet, n, count).listing(memory)),
+        Header::Refused(why) => refused(why),
+    }
+}
+
+// "sheet header"
+#[no_mangle]
+pub extern "C" fn tabashfar_header(sheet: &[u8]) -> u64
+    ensures { λ r. ⌜ Tells (ReadsHeader (now (sheet .entry))) headerSays r ⌝ }
+{
+    header_told(sheet::read_header(sheet))
+}
+
+// "For a sheet and k, counted from 0, one entry says whether the action is there"
+#[no_mangle]
+pub extern "C" fn tabashfar_has_action(sheet: &[u8], k: usize) -> u64
+    ensures { λ r. ⌜ Tells (HasAction (now (sheet .entry)) k) thereSays r ⌝ }
+{
+    there_told(sheet::has_action(sheet, k))
+}
+
+// "A second entry returns a part only": how long it is in the low byte, and from bit 8 on where in the sheet it starts
+#[no_mangle]
+pub extern "C" fn tabashfar_action_part(sheet: &[u8], k: usize) -> u64
+    ensures { λ r. ⌜ r ≡ length (partOf (now (sheet .entry)) k) + 256 * startOf (now (sheet .entry)) k ⌝ }
+{
+    match sheet::has_action(sheet, k) {
+        There::Yes => 10 + 256 * (8 + 10 * k as u64),
+        There::Refused(_) => 0,
+    }
+}
+
+// "action reader (a part)"
+#[no_mangle]
+pub extern "C" fn tabashfar_read_action(part: &[u8]) -> u64
+    ensures { λ r. ⌜ Tells (ReadsAction (now (part .entry))) kindSays r ⌝ }
+{
+    action_kind(actions::read_action(part))
+}
+
+// Runs a whole sheet and writes what it prints at the front of the memory.
+#[no_mangle]
+pub extern "C" fn tabashfar_run(sheet: &[u8], memory: &mut [u8]) -> u64
+    ensures { λ r. ⌜ Tells (λ a. Runs (now (sheet .entry)) (now (memory .entry)) a (now (memory .exit))) ranSays r ⌝ }
+{
+    ran(printed::run(sheet, memory))
+}

@@ -1,0 +1,139 @@
+// An answer as one number: the table's number in the low byte, 0 where the call was accepted, and the value from bit 8 on.
+use actions::Action;
+use book::Answer;
+use book::Link;
+use book::Listing;
+use crossing::Found;
+use printed::Ran;
+use sheet::Header;
+use sheet::There;
+use table::Refusal;
+use tags::Tag;
+use tags::Written;
+use walks::Ended;
+ghost use mathlib.Core.Path.{_≡_};
+ghost use Prim.Native.Nat.{ℕ, _≤_};
+ghost use Rattle.table.specs.Numbers.{numberOf};
+ghost use Rattle.tags.specs.Entries.{writtenSays, tagSays};
+ghost use Rattle.book.specs.Entries.{answerSays, linkSays, listingSays};
+ghost use Rattle.walks.specs.Entries.{walkSays};
+ghost use Rattle.crossing.specs.Routed.{routeSays};
+ghost use Rattle.sheet.specs.Entries.{headerSays, thereSays};
+ghost use Rattle.printed.specs.Runs.{ranSays};
+ghost use Rattle.face.specs.Packed.{packed, kindSays};
+
+pub fn refused(why: Refusal) -> u64
+    ensures { λ r. ⌜ r ≡ numberOf why ⌝ }
+{
+    table::number(why) as u64
+}
+
+pub fn written(answer: Written) -> u64
+    ensures { λ r. ⌜ r ≡ packed (writtenSays answer) ⌝ }
+{
+    match answer {
+        Written::Done => 0,
+        Written::Refused(why) => refused(why),
+    }
+}
+
+pub fn tag_told(answer: Tag) -> u64
+    ensures { λ r. ⌜ r ≡ packed (tagSays answer) ⌝ }
+{
+    match answer {
+        Tag::Normal(tag) => 256 * tag as u64,
+        Tag::Refused(why) => refused(why),
+    }
+}
+
+pub fn answered(answer: Answer) -> u64
+    ensures { λ r. ⌜ r ≡ packed (answerSays answer) ⌝ }
+{
+    match answer {
+        Answer::Done => 0,
+        Answer::Refused(why) => refused(why),
+    }
+}
+
+pub fn link_told(answer: Link) -> u64
+    ensures { λ r. ⌜ r ≡ packed (linkSays answer) ⌝ }
+{
+    match answer {
+        Link::Clear => 0,
+        Link::Stopped => 256,
+        Link::Refused(why) => refused(why),
+    }
+}
+
+pub fn listed(answer: Listing) -> u64
+    requires { ⌜ ((count : ℕ) → answer ≡ Listing.Listed count → count ≤ 48) ⌝ }
+    ensures { λ r. ⌜ r ≡ packed (listingSays answer) ⌝ }
+{
+    match answer {
+        Listing::Listed(count) => 256 * count as u64,
+        Listing::Refused(why) => refused(why),
+    }
+}
+
+pub fn ended(answer: Ended) -> u64
+    ensures { λ r. ⌜ r ≡ packed (walkSays answer) ⌝ }
+{
+    match answer {
+        Ended::Clear => 0,
+        Ended::Stopped(stage) => 11 + 256 * stage as u64,
+        Ended::Astray => 17,
+        Ended::Refused(why) => refused(why),
+    }
+}
+
+pub fn found(answer: Found) -> u64
+    ensures { λ r. ⌜ r ≡ packed (routeSays answer) ⌝ }
+{
+    match answer {
+        Found::Tag(tag) => 256 * tag as u64,
+        Found::None(stage) => 11 + 256 * stage as u64,
+        Found::Refused(why) => refused(why),
+    }
+}
+
+pub fn header_told(answer: Header) -> u64
+    ensures { λ r. ⌜ r ≡ packed (headerSays answer) ⌝ }
+{
+    match answer {
+        Header::Sheet { n, count } => 256 * (n as u64 + 256 * count as u64),
+        Header::Refused(why) => refused(why),
+    }
+}
+
+pub fn there_told(answer: There) -> u64
+    ensures { λ r. ⌜ r ≡ packed (thereSays answer) ⌝ }
+{
+    match answer {
+        There::Yes => 0,
+        There::Refused(why) => refused(why),
+    }
+}
+
+pub fn action_kind(answer: Action) -> u64
+    ensures { λ r. ⌜ r ≡ packed (kindSays answer) ⌝ }
+{
+    match answer {
+        Action::File(_) => 256,
+        Action::Withdraw(_) => 512,
+        Action::Route {
+            source: _,
+            destination: _,
+        } => 768,
+        Action::Refused(why) => refused(why),
+    }
+}
+
+pub fn ran(answer: Ran) -> u64
+    requires { ⌜ ((bytes : ℕ) → answer ≡ Ran.Printed bytes → bytes ≤ 196632) ⌝ }
+    ensures { λ r. ⌜ r ≡ packed (ranSays answer) ⌝ }
+{
+    match answer {
+        Ran::Printed(bytes) => 256 * bytes as u64,
+        Ran::Refused(why) => refused(why),
+    }
+}

@@ -1,0 +1,120 @@
+//! Tabashfar for Rust: the entries of document 01 over slices, safe to call. The static library of the crate `face` is linked beside it;
+//! tabashfar.h says what each entry writes and answers.
+
+mod raw {
+    extern "C" {
+        pub fn tabashfar_tag_to_steps(n: u8, source: u16, tag: u32, memory: *mut u8, memory_len: usize) -> u64;
+        pub fn tabashfar_steps_to_tag(n: u8, source: u16, memory: *const u8, memory_len: usize) -> u64;
+        pub fn tabashfar_normal_form(n: u8, source: u16, tag: u32) -> u64;
+        pub fn tabashfar_open(n: u8) -> u64;
+        pub fn tabashfar_file_links(sheet: *const u8, sheet_len: usize, number: u16, stage: u8, switch: u16, set: u8) -> u64;
+        pub fn tabashfar_file_switch(sheet: *const u8, sheet_len: usize, number: u16, column: u8, switch: u16) -> u64;
+        pub fn tabashfar_file_pattern(
+            sheet: *const u8, sheet_len: usize, number: u16, stage: u8, value: u16, mask: u16, set: u8,
+        ) -> u64;
+        pub fn tabashfar_withdraw(sheet: *const u8, sheet_len: usize, number: u16) -> u64;
+        pub fn tabashfar_link(sheet: *const u8, sheet_len: usize, stage: u8, switch: u16, code: u8) -> u64;
+        pub fn tabashfar_listing(sheet: *const u8, sheet_len: usize, memory: *mut u8, memory_len: usize) -> u64;
+        pub fn tabashfar_route(sheet: *const u8, sheet_len: usize, source: u16, destination: u16) -> u64;
+        pub fn tabashfar_walk(sheet: *const u8, sheet_len: usize, source: u16, tag: u32) -> u64;
+        pub fn tabashfar_header(sheet: *const u8, sheet_len: usize) -> u64;
+        pub fn tabashfar_has_action(sheet: *const u8, sheet_len: usize, k: usize) -> u64;
+        pub fn tabashfar_action_part(sheet: *const u8, sheet_len: usize, k: usize) -> u64;
+        pub fn tabashfar_read_action(part: *const u8, part_len: usize) -> u64;
+        pub fn tabashfar_run(sheet: *const u8, sheet_len: usize, memory: *mut u8, memory_len: usize) -> u64;
+    }
+}
+
+/// A number of document 01's table; at 11 the stage comes with it.
+#[derive(Clone, Copy, PartialEq, Eq, Debug)]
+pub struct Refused {
+    pub number: u8,
+    pub stage: u8,
+}
+
+/// The value of an accepted call, or the refusal.
+fn unpacked(answer: u64) -> Result<u64, Refused> {
+    match (answer & 255) as u8 {
+        0 => Ok(answer >> 8),
+        number => Err(Refused { number, stage: (answer >> 8) as u8 }),
+    }
+}
+
+pub fn tag_to_steps(n: u8, source: u16, tag: u32, memory: &mut [u8]) -> Result<(), Refused> {
+    unpacked(unsafe { raw::tabashfar_tag_to_steps(n, source, tag, memory.as_mut_ptr(), memory.len()) }).map(|_| ())
+}
+
+pub fn steps_to_tag(n: u8, source: u16, memory: &[u8]) -> Result<u32, Refused> {
+    unpacked(unsafe { raw::tabashfar_steps_to_tag(n, source, memory.as_ptr(), memory.len()) }).map(|tag| tag as u32)
+}
+
+pub fn normal_form(n: u8, source: u16, tag: u32) -> Result<u32, Refused> {
+    unpacked(unsafe { raw::tabashfar_normal_form(n, source, tag) }).map(|tag| tag as u32)
+}
+
+pub fn open(n: u8) -> Result<(), Refused> {
+    unpacked(unsafe { raw::tabashfar_open(n) }).map(|_| ())
+}
+
+pub fn file_links(sheet: &[u8], number: u16, stage: u8, switch: u16, set: u8) -> Result<(), Refused> {
+    unpacked(unsafe { raw::tabashfar_file_links(sheet.as_ptr(), sheet.len(), number, stage, switch, set) }).map(|_| ())
+}
+
+pub fn file_switch(sheet: &[u8], number: u16, column: u8, switch: u16) -> Result<(), Refused> {
+    unpacked(unsafe { raw::tabashfar_file_switch(sheet.as_ptr(), sheet.len(), number, column, switch) }).map(|_| ())
+}
+
+pub fn file_pattern(sheet: &[u8], number: u16, stage: u8, value: u16, mask: u16, set: u8) -> Result<(), Refused> {
+    let answer = unsafe { raw::tabashfar_file_pattern(sheet.as_ptr(), sheet.len(), number, stage, value, mask, set) };
+    unpacked(answer).map(|_| ())
+}
+
+pub fn withdraw(sheet: &[u8], number: u16) -> Result<(), Refused> {
+    unpacked(unsafe { raw::tabashfar_withdraw(sheet.as_ptr(), sheet.len(), number) }).map(|_| ())
+}
+
+/// Whether the link is stopped.
+pub fn link(sheet: &[u8], stage: u8, switch: u16, code: u8) -> Result<bool, Refused> {
+    unpacked(unsafe { raw::tabashfar_link(sheet.as_ptr(), sheet.len(), stage, switch, code) }).map(|stopped| stopped == 1)
+}
+
+/// How many notices stand; their filing actions lie at the front of the memory.
+pub fn listing(sheet: &[u8], memory: &mut [u8]) -> Result<usize, Refused> {
+    let answer = unsafe { raw::tabashfar_listing(sheet.as_ptr(), sheet.len(), memory.as_mut_ptr(), memory.len()) };
+    unpacked(answer).map(|count| count as usize)
+}
+
+pub fn route(sheet: &[u8], source: u16, destination: u16) -> Result<u32, Refused> {
+    unpacked(unsafe { raw::tabashfar_route(sheet.as_ptr(), sheet.len(), source, destination) }).map(|tag| tag as u32)
+}
+
+pub fn walk(sheet: &[u8], source: u16, tag: u32) -> Result<(), Refused> {
+    unpacked(unsafe { raw::tabashfar_walk(sheet.as_ptr(), sheet.len(), source, tag) }).map(|_| ())
+}
+
+/// n and the action count.
+pub fn header(sheet: &[u8]) -> Result<(u8, u16), Refused> {
+    unpacked(unsafe { raw::tabashfar_header(sheet.as_ptr(), sheet.len()) }).map(|value| (value as u8, (value >> 8) as u16))
+}
+
+pub fn has_action(sheet: &[u8], k: usize) -> Result<(), Refused> {
+    unpacked(unsafe { raw::tabashfar_has_action(sheet.as_ptr(), sheet.len(), k) }).map(|_| ())
+}
+
+/// Action k as those ten bytes of the sheet themselves, or the empty part at its front.
+pub fn action_part(sheet: &[u8], k: usize) -> &[u8] {
+    let part = unsafe { raw::tabashfar_action_part(sheet.as_ptr(), sheet.len(), k) };
+    let start = (part >> 8) as usize;
+    &sheet[start..start + (part & 255) as usize]
+}
+
+/// 1 files, 2 withdraws, 3 routes; the fields are the part's own bytes.
+pub fn read_action(part: &[u8]) -> Result<u8, Refused> {
+    unpacked(unsafe { raw::tabashfar_read_action(part.as_ptr(), part.len()) }).map(|action| action as u8)
+}
+
+/// How many bytes of what the sheet prints lie at the front of the memory.
+pub fn run(sheet: &[u8], memory: &mut [u8]) -> Result<usize, Refused> {
+    let answer = unsafe { raw::tabashfar_run(sheet.as_ptr(), sheet.len(), memory.as_mut_ptr(), memory.len()) };
+    unpacked(answer).map(|bytes| bytes as usize)
+}
