@@ -1,5 +1,8 @@
 //! Runs one full sheet by the proved program's function and by a plain one, sees that the bytes printed agree, and prints both
 //! times. The sheet: 48 filings, 4,046 routes, and a withdrawal and a new filing in their midst.
+#[path = "../include/tabashfar.rs"]
+#[allow(dead_code)]
+mod face;
 mod plain;
 mod plain_sheet;
 mod questions;
@@ -8,16 +11,12 @@ use questions::{action, filings, Numbers, Pool, N};
 use std::hint::black_box;
 use std::time::Instant;
 
-extern "C" {
-    fn bench_sheet(sheet: *const u8, sheet_len: usize, memory: *mut u8, memory_len: usize) -> usize;
-}
-
 const COUNT: usize = 4096;
 const ROOM: usize = 24 + 48 * COUNT;
 const ROUNDS: usize = 400;
 
 fn proved(sheet: &[u8], memory: &mut [u8]) -> usize {
-    unsafe { bench_sheet(sheet.as_ptr(), sheet.len(), memory.as_mut_ptr(), memory.len()) }
+    face::run(sheet, memory).expect("the memory has room for every line")
 }
 
 fn full_sheet() -> Vec<u8> {

@@ -1,0 +1,48 @@
+/* Calls every function of include/tabashfar.h once from C, on document 01's fabric of three stages. */
+#include "../include/tabashfar.h"
+
+#include <stdio.h>
+#include <string.h>
+
+/* n = 3, one action: file 7, links, stage 0, switch 1, minus */
+static const uint8_t sheet[] = {'F', 'S', 'H', 0, 1, 3, 0, 1, 1, 0, 7, 1, 0, 0, 1, 0, 0, 4};
+
+static int wrong = 0;
+
+static void is(const char *what, uint64_t answer, unsigned number, uint64_t value) {
+    if (tabashfar_number(answer) != number || tabashfar_value(answer) != value) {
+        fprintf(stderr, "face.c: %s answers %u with %llu, not %u with %llu\n", what, tabashfar_number(answer),
+                (unsigned long long)tabashfar_value(answer), number, (unsigned long long)value);
+        wrong = 1;
+    }
+}
+
+int main(void) {
+    uint8_t memory[72] = {0};
+    const size_t len = sizeof sheet;
+    is("tag_to_steps", tabashfar_tag_to_steps(3, 1, 8, memory, 3), 0, 0);
+    is("steps_to_tag", tabashfar_steps_to_tag(3, 1, memory, 3), 0, 8);
+    is("normal_form", tabashfar_normal_form(3, 1, 40), 0, 8);
+    is("open", tabashfar_open(13), 1, 0);
+    is("file_links", tabashfar_file_links(sheet, len, 7, 0, 2, 1), 7, 0);
+    is("file_switch", tabashfar_file_switch(sheet, len, 8, 4, 2), 4, 0);
+    is("file_pattern", tabashfar_file_pattern(sheet, len, 9, 0, 1, 1, 7), 6, 0);
+    is("withdraw", tabashfar_withdraw(sheet, len, 9), 9, 0);
+    is("link", tabashfar_link(sheet, len, 0, 1, 2), 0, 1);
+    is("listing", tabashfar_listing(sheet, len, memory, 10), 0, 1);
+    is("route", tabashfar_route(sheet, len, 1, 0), 0, 8);
+    is("walk", tabashfar_walk(sheet, len, 1, 0), 11, 0);
+    is("header", tabashfar_header(sheet, len), 0, 3 + 256 * 1);
+    is("has_action", tabashfar_has_action(sheet, len, 1), 13, 0);
+    is("read_action", tabashfar_read_action(sheet + 8, 10), 0, 1);
+    is("run", tabashfar_run(sheet, len, memory, 72), 0, 20);
+    if (tabashfar_action_part(sheet, len, 0) != 10 + 256 * 8) {
+        fprintf(stderr, "face.c: action_part does not say ten bytes at 8\n");
+        wrong = 1;
+    }
+    if (memcmp(memory, "SHEET 3 1\nFILE 7 OK\n", 20) != 0) {
+        fprintf(stderr, "face.c: run printed something else\n");
+        wrong = 1;
+    }
+    return wrong;
+}
