@@ -1,7 +1,6 @@
 -- what the functions' proofs lean on
 pub mod Filings
 pub mod Placing
-pub mod Listings
 pub mod Answers
 -- what stops a link
 pub mod Stoppers

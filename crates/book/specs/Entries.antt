@@ -18,7 +18,7 @@ use Rattle.book.specs.declared.Listing.{Listing}
 use Rattle.notices.specs.Targets.{outsideFabric, badField, tooWide}
 use Rattle.book.specs.Standing.{standing, bookOf, unsound, stopper}
 use Rattle.standing.specs.Rising.{stands, insert, without}
-use Rattle.book.specs.Rows.{rows}
+use Rattle.standing.specs.Rows.{rows}
 
 -- what an answer to open, file and withdraw says
 abbrev pub answerSays : Answer → Reply

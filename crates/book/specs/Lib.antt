@@ -1,4 +1,3 @@
 pub mod Standing
-pub mod Rows
 pub mod Entries
 pub mod Runs

@@ -9,9 +9,6 @@ ghost use Rattle.book.specs.Standing.{standing, stopper, unsound, Sound}
 ghost use Rattle.book.specs.Entries.{Opens, Files, Withdraws, Tests, Lists};
 
 mod places; // places.rt: the notices in their places
-mod rows; // rows.rt: the listing's bytes
-
-pub use places::littered;
 
 // The first `count` notices stand, by rising number; every place after them holds number 0 and the first target, all zero.
 pub struct Book {
@@ -55,10 +52,11 @@ pub fn unsound(book: Book) -> bool
     if 48 < book.count {
         return true;
     }
-    if places::misfiled(book) {
+    let notices = book.notices;
+    if standing::misfiled(book.n, notices, book.count) {
         return true;
     }
-    places::littered(book)
+    standing::littered(notices, book.count)
 }
 
 // The lowest number of a standing notice that names the link, or 0.
@@ -185,7 +183,8 @@ impl Book {
         if memory.len() < 10 * count {
             return Listing::Refused(Refusal::Room);
         }
-        rows::laid(self, memory);
+        let notices = self.notices;
+        standing::laid(notices, count, memory);
         Listing::Listed(count)
     }
 }

@@ -4,8 +4,8 @@ use notices::Notice;
 ghost use mathlib.Core.Path.{_≡_};
 ghost use mathlib.Core.Bool.{true};
 ghost use mathlib.Core.List.{[]};
-ghost use Prim.Native.Nat.{_+_, _≤_, _<_};
-ghost use Rattle.standing.specs.Rising.{stands, insert, without, littered, misfiled};
+ghost use Prim.Native.Nat.{_+_, _<_};
+ghost use Rattle.standing.specs.Rising.{stands, insert, without};
 ghost use Rattle.book.specs.Standing.{standing, unused, bookOf, Sound};
 ghost use Rattle.standing.specs.Places.{placeOf};
 
@@ -21,70 +21,15 @@ pub fn empty(n: u8) -> Book
     }
 }
 
-// Whether some standing notice is out of order, or one that filing refuses.
-pub fn misfiled(book: Book) -> bool
-    requires { ⌜ (book .count ≤ 48) × (book .n ≤ 12) ⌝ }
-    ensures { λ r. ⌜ r ≡ misfiled (book .n) 0 (standing book) ⌝ }
-{
-    let n = book.n;
-    let count = book.count;
-    let mut last = 0;
-    let mut i = 0;
-    while i < count {
-        let x = book.notices[i];
-        if x.number <= last {
-            return true;
-        }
-        if notices::unfit(n, x) {
-            return true;
-        }
-        last = x.number;
-        i += 1;
-    }
-    false
-}
-
-// Whether some unused place holds anything else.
-pub fn littered(book: Book) -> bool
-    requires { ⌜ book .count ≤ 48 ⌝ }
-    ensures { λ r. ⌜ r ≡ littered (unused book) ⌝ }
-{
-    let mut i = book.count;
-    while i < 48 {
-        let x = book.notices[i];
-        if !standing::is_filler(x) {
-            return true;
-        }
-        i += 1;
-    }
-    false
-}
-
-// How many notices stand before the first whose number is k or more.
-fn place(book: Book, k: u16) -> usize
-    requires { ⌜ book .count ≤ 48 ⌝ }
-    ensures { λ r. ⌜ (r ≡ placeOf k (standing book)) × (r ≤ book .count) ⌝ }
-{
-    let count = book.count;
-    let mut i = 0;
-    while i < count {
-        let x = book.notices[i];
-        if k <= x.number {
-            return i;
-        }
-        i += 1;
-    }
-    i
-}
-
 // Whether a notice of number k stands.
 pub fn stands(book: Book, k: u16) -> bool
     requires { ⌜ Sound book ⌝ }
     ensures { λ r. ⌜ r ≡ stands k (standing book) ⌝ }
 {
-    let p = place(book, k);
+    let notices = book.notices;
+    let p = standing::place(notices, book.count, k);
     if p < book.count {
-        let x = book.notices[p];
+        let x = notices[p];
         return x.number == k;
     }
     false
@@ -97,7 +42,7 @@ pub fn inserted(book: Book, x: Notice) -> Book
 {
     let count = book.count;
     let notices = book.notices;
-    let p = place(book, x.number);
+    let p = standing::place(notices, count, x.number);
     let mut grown = standing::moved(notices, p, p + 1, count - p);
     grown[p] = x;
     Book {
@@ -114,7 +59,7 @@ pub fn removed(book: Book, k: u16) -> Book
 {
     let count = book.count;
     let notices = book.notices;
-    let p = place(book, k);
+    let p = standing::place(notices, count, k);
     let mut shrunk = standing::moved(notices, p + 1, p, count - p - 1);
     let x = standing::filler();
     shrunk[count - 1] = x;

@@ -32,7 +32,8 @@ pub fn route(book: Book, source: u16, destination: u16) -> Found
         return Found::Refused(Refusal::Book);
     }
     if book.count < 48 {
-        if book::littered(book) {
+        let notices = book.notices;
+        if standing::littered(notices, book.count) {
             return Found::Refused(Refusal::Book);
         }
     }

@@ -24,14 +24,14 @@ returns-2 c = (
 )
 
 misfiled-requires : tie.Need-misfiled-requires
-misfiled-requires c κs = let h = c .before .before .before .outside-sizes .ensures .1 (c .before .before .if1 .left) in (omega arith, h .1)
+misfiled-requires c κs = let h = c .before .before .before .before .outside-sizes .ensures .1 (c .before .before .before .if1 .left) in (omega arith, h .1)
 
 returns-3 : tie.Need-returns-3
 returns-3 c = (
   rw (
-    ← c .before .before .before .before .before .outside-sizes .ensures .0,
-    c .before .before .before .before .if1 .left,
-    le-ltb 48 (c .before .before .before .before .before .before .args .book .count) (c .before .before .if2 .left),
+    ← c .before .before .before .before .before .before .outside-sizes .ensures .0,
+    c .before .before .before .before .before .if1 .left,
+    le-ltb 48 (c .before .before .before .before .before .before .before .args .book .count) (c .before .before .before .if2 .left),
     ← c .before .misfiled .ensures,
     c .if3 .taken,
   ),
@@ -43,10 +43,10 @@ littered-requires c κs = search needs
 
 returns-4 : tie.Need-returns-4
 returns-4 c =
-    let b = c .before .before .before .before .before .before .before .args .book in
+    let b = c .before .before .before .before .before .before .before .before .args .book in
     let n : length (b .notices) ≡ 48 = search (needs, length-mapped) in
     let t : c .littered .result ≡ unsound b =
-    rw (← c .before .before .before .before .before .before .outside-sizes .ensures .0, c .before .before .before .before .before .if1 .left, le-ltb 48 (b .count) (c .before .before .before .if2 .left), ← c .before .before .misfiled .ensures, c .before .if3 .left)
+    rw (← c .before .before .before .before .before .before .before .outside-sizes .ensures .0, c .before .before .before .before .before .before .if1 .left, le-ltb 48 (b .count) (c .before .before .before .before .if2 .left), ← c .before .before .misfiled .ensures, c .before .if3 .left)
     (c .littered .ensures) in
     (t, λ e. sound-if b n (sym t ∙ e))
 

@@ -10,11 +10,11 @@ use Rattle.table.specs.Reply.{Reply, refused}
 use Rattle.table.specs.Checks.{Given, Passed, Given.here, Given.later, Passed.none, Passed.passes}
 use Rattle.table.proofs.Checks.{given-refuses, passed-accepts}
 use Rattle.book.specs.Standing.{standing}
-use Rattle.book.specs.Rows.{rows}
+use Rattle.standing.specs.Rows.{rows}
 use Rattle.book.specs.Entries.{listingChecks}
 use Rattle.standing.proofs.Arrays.{length-mapped}
 use Rattle.book.proofs.Placing.{length-standing}
-use Rattle.book.proofs.Listings.{length-rows}
+use Rattle.standing.proofs.Listings.{length-rows}
 use Rattle.book.proofs.Book.listing.Statement.{statement}
 use Rattle.book.proofs.Book.listing.Tie as tie
 
@@ -43,20 +43,20 @@ returns-2 c =
     record { says = sym (given-refuses refused _ 13 (listingChecks b m) g); leaves = sym (given-refuses (λ k. m) _ 13 (listingChecks b m) g) }
 
 laid-requires : tie.Need-laid-requires
-laid-requires c κs = ((c .before .before .before .unsound .ensures .1 (c .before .before .if1 .left)) .fits, search needs)
+laid-requires c κs = ((c .before .before .before .before .unsound .ensures .1 (c .before .before .before .if1 .left)) .fits, search needs)
 
 same-length : tie.Need-same-length
 same-length c = search needs
 
 returns-3 : tie.Need-returns-3
 returns-3 c =
-    let b = c .before .before .before .before .before .before .before .before .args .self in
-    let m = c .before .before .before .before .before .before .before .before .args .memory .now in
-    let u = c .before .before .before .before .before .before .unsound .ensures .1 (c .before .before .before .before .before .if1 .left) in
+    let b = c .before .before .before .before .before .before .before .before .before .args .self in
+    let m = c .before .before .before .before .before .before .before .before .before .args .memory .now in
+    let u = c .before .before .before .before .before .before .before .unsound .ensures .1 (c .before .before .before .before .before .before .if1 .left) in
     let n : length (b .notices) ≡ 48 = search (needs, length-mapped) in
     let l = length-standing b u n in
     let r = length-rows (standing b) in
-    let p : Passed (listingChecks b m) = passes (sym (c .before .before .before .before .before .before .unsound .ensures .0) ∙ c .before .before .before .before .before .if1 .left) (passes (le-ltb (length m) (length (rows (standing b))) (omega arith)) none) in
+    let p : Passed (listingChecks b m) = passes (sym (c .before .before .before .before .before .before .before .unsound .ensures .0) ∙ c .before .before .before .before .before .before .if1 .left) (passes (le-ltb (length m) (length (rows (standing b))) (omega arith)) none) in
     record {
       says = sym (passed-accepts refused _ (listingChecks b m) p ∙ ap (λ k. Reply.accepted (k ∷ [])) l);
       leaves = c .before .before .laid .ensures ∙ ap (λ k. rows (standing b) ++ drop k m) (ap (λ k. 10 * k) (sym l) ∙ sym r) ∙ sym (passed-accepts (λ k. m) _ (listingChecks b m) p);

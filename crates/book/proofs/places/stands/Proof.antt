@@ -13,20 +13,20 @@ place-requires c κs = search needs
 mul-x : tie.Need-mul-x
 mul-x c = search needs
 
-element-copy-out-x : tie.Need-element-copy-out-x
-element-copy-out-x c = search needs
+array-copy-out-x : tie.Need-array-copy-out-x
+array-copy-out-x c = search needs
 
 returns : tie.Need-returns
 returns c =
-    let s = c .before .before .before .before in
-    let n : length (s .args .t1 .notices) ≡ 48 = search (needs, length-mapped) in
-    stands-here (s .args .t1) (s .pre) n (s .args .k) (c .before .before .before .place .result) (c .before .before .before .place .ensures .0) (c .before .before .if1 .taken)
+    let s = c .before .before .before .before .before .before in
+    let n : length (s .args .book .notices) ≡ 48 = search (needs, length-mapped) in
+    stands-here (s .args .book) (s .pre) n (s .args .k) (c .before .before .before .before .place .result) (c .before .before .before .before .place .ensures .0) (c .before .before .if1 .taken)
 
 returns-2 : tie.Need-returns-2
 returns-2 c =
-    let s = c .before .before in
-    let n : length (s .args .t1 .notices) ≡ 48 = search (needs, length-mapped) in
-    stands-nowhere (s .args .t1) (s .pre) n (s .args .k) (c .before .place .result) (c .before .place .ensures .0) (c .if1 .left)
+    let s = c .before .before .before .before in
+    let n : length (s .args .book .notices) ≡ 48 = search (needs, length-mapped) in
+    stands-nowhere (s .args .book) (s .pre) n (s .args .k) (c .before .before .place .result) (c .before .before .place .ensures .0) (c .if1 .left)
 
 pub stands-spec : {M : Type 1} → statement M
-stands-spec = tie.close (tie.spec place-requires mul-x element-copy-out-x returns returns-2)
+stands-spec = tie.close (tie.spec place-requires mul-x array-copy-out-x returns returns-2)

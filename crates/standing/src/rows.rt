@@ -1,12 +1,11 @@
-// Document 01, listing: the standing notices as filing actions of ten bytes.
-use super::Book;
+// Document 01, listing: notices as filing actions of ten bytes.
+use notices::Notice;
 ghost use mathlib.Core.Path.{_≡_};
 ghost use Prim.Native.Nat.{_+_, _*_, _≤_};
 ghost use mathlib.Core.List.{_++_};
-ghost use lib.ListN.{length, drop};
+ghost use lib.ListN.{length, take, drop};
 ghost use lib.Seq.{paste};
-ghost use Rattle.book.specs.Standing.{standing};
-ghost use Rattle.book.specs.Rows.{rows};
+ghost use Rattle.standing.specs.Rows.{rows};
 
 // Lays ten bytes at a place of the memory.
 fn lay(memory: &mut [u8], at: usize, row: [u8; 10])
@@ -20,15 +19,14 @@ fn lay(memory: &mut [u8], at: usize, row: [u8; 10])
     }
 }
 
-// Lays the standing notices at the front of the memory.
-pub fn laid(book: Book, memory: &mut [u8])
-    requires { ⌜ (book .count ≤ 48) × (10 * book .count ≤ length (now memory)) ⌝ }
-    ensures { λ _. ⌜ now (memory .exit) ≡ rows (standing book) ++ drop (10 * book .count) (now (memory .entry)) ⌝ }
+// Lays the first `count` notices at the front of the memory.
+pub fn laid(notices: [Notice; 48], count: usize, memory: &mut [u8])
+    requires { ⌜ (count ≤ 48) × (10 * count ≤ length (now memory)) ⌝ }
+    ensures { λ _. ⌜ now (memory .exit) ≡ rows (take count notices) ++ drop (10 * count) (now (memory .entry)) ⌝ }
 {
-    let count = book.count;
     let mut i = 0;
     while i < count {
-        let x = book.notices[i];
+        let x = notices[i];
         let row = notices::filing(x);
         lay(memory, 10 * i, row);
         i += 1;

@@ -5,29 +5,28 @@ use Prim.Native.Nat.{_≤_, _-_, _*_}
 use native.Mathlib.Omega.{arith}
 use borrow.Author.Needs.{needs}
 use lib.ListN.{length, take, drop}
 use Rattle.standing.specs.Rising.{filler}
-use Rattle.book.specs.Rows.{rows}
-use Rattle.standing.proofs.Arrays.{length-mapped}
-use Rattle.book.proofs.Listings.{one-row-more}
-use Rattle.book.proofs.rows.laid.Statement.{statement}
-use Rattle.book.proofs.rows.laid.Tie as tie
+use Rattle.standing.specs.Rows.{rows}
+use Rattle.standing.proofs.Listings.{one-row-more}
+use Rattle.standing.proofs.rows.laid.Statement.{statement}
+use Rattle.standing.proofs.rows.laid.Tie as tie
 
 abbrev Inv-loop : tie.InvT-loop
-Inv-loop memory₀ book count i₀ memory i =
-    (i ≤ count) × (length (book .notices) ≡ 48) × (memory ≡ rows (take i (book .notices)) ++ drop (10 * i) memory₀) × (length memory ≡ length memory₀)
+Inv-loop count memory₀ notices i₀ memory i =
+    (i ≤ count) × (length notices ≡ 48) × (memory ≡ rows (take i notices) ++ drop (10 * i) memory₀) × (length memory ≡ length memory₀)
 
 abbrev μ-loop : tie.MeasureT-loop
-μ-loop memory₀ book count i₀ memory i = count - i
+μ-loop count memory₀ notices i₀ memory i = count - i
 
 loop-holds : tie.Need-loop-holds Inv-loop μ-loop
 unfolding rows
-loop-holds c = (search needs, search (needs, length-mapped), refl, refl)
+loop-holds c = (search needs, search needs, refl, refl)
 
 mul-x : tie.Need-mul-x Inv-loop μ-loop
 mul-x c = search needs
 
-element-copy-out-x : tie.Need-element-copy-out-x Inv-loop μ-loop
-element-copy-out-x c = search needs
+array-copy-out-x : tie.Need-array-copy-out-x Inv-loop μ-loop
+array-copy-out-x c = search needs
 
 filing-requires : tie.Need-filing-requires Inv-loop μ-loop
 filing-requires c κs = search needs
@@ -51,7 +50,7 @@ loop-again c =
     let l = c .before .before .lay in (
       omega arith,
       v .inv .1,
-      l .ensures ∙ rw (c .before .before .before .before .filing .ensures, v .inv .2) (one-row-more (a .t1 .notices) (v .i) filler (a .memory .now) (omega arith)),
+      l .ensures ∙ rw (c .before .before .before .before .filing .ensures, v .inv .2) (one-row-more (a .t1) (v .i) filler (a .memory .now) (omega arith)),
       l .kept .0 ∙ v .inv .3,
     )
 
@@ -60,7 +59,7 @@ same-length c = c .before .loop .inv .3
 
 returns : tie.Need-returns Inv-loop μ-loop
 returns c =
-    let e : c .before .loop .i ≡ c .before .before .before .args .t1 .count = omega arith in
+    let e : c .before .loop .i ≡ c .before .before .before .args .count = omega arith in
     rw (← e) (c .before .loop .inv .2)
 
 pub laid-spec : {M : Type 1} → statement M
@@ -71,7 +70,7 @@ laid-spec =
     μ-loop
     loop-holds
     mul-x
-    element-copy-out-x
+    array-copy-out-x
     filing-requires
     mul-lay
     lay-requires

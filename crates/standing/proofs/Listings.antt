@@ -10,7 +10,7 @@ use Rattle.notices.specs.declared.Notice.{Notice}
 use Rattle.notices.specs.declared.Target.{Target}
 use Rattle.notices.specs.declared.Target.the-variants.{Links, Switch, Pattern}
 use Rattle.notices.specs.Layout.{filingOf, filing}
-use Rattle.book.specs.Rows.{rows}
+use Rattle.standing.specs.Rows.{rows}
 
 ten : (k : ℕ) (t : Target) → length (filingOf k t) ≡ 10
 ten k (Links stage switch s) = refl

@@ -6,8 +6,8 @@ use native.Mathlib.Numerals.{add-one}
 use borrow.Author.Needs.{needs}
 use lib.ListN.{length, length-set}
 use lib.Seq.{paste, paste-zero, paste-suc}
-use Rattle.book.proofs.rows.lay.Statement.{statement}
-use Rattle.book.proofs.rows.lay.Tie as tie
+use Rattle.standing.proofs.rows.lay.Statement.{statement}
+use Rattle.standing.proofs.rows.lay.Tie as tie
 
 abbrev Inv-loop : tie.InvT-loop
 Inv-loop memory₀ at row j₀ memory j = (j ≤ 10) × (memory ≡ paste memory₀ at row j) × (length row ≡ 10) × (length memory ≡ length memory₀)

@@ -5,35 +5,35 @@ use native.Mathlib.Omega.{arith}
 use borrow.Author.Tests.{le-leb, lt-leb}
 use borrow.Author.Needs.{needs}
 use lib.ListN.{length, take, drop, getD}
 use Rattle.standing.specs.Rising.{filler, misfiled}
-use Rattle.standing.proofs.Arrays.{length-mapped, next-of, none-left-of}
-use Rattle.book.proofs.places.misfiled.Statement.{statement}
-use Rattle.book.proofs.places.misfiled.Tie as tie
+use Rattle.standing.proofs.Arrays.{next-of, none-left-of}
+use Rattle.standing.proofs.misfiled.Statement.{statement}
+use Rattle.standing.proofs.misfiled.Tie as tie
 
 abbrev Inv-loop : tie.InvT-loop
-Inv-loop book n count last₀ i₀ last i =
-    (i ≤ count) × (count ≤ length (book .notices)) × (misfiled n 0 (take count (book .notices)) ≡ misfiled n last (drop i (take count (book .notices))))
+Inv-loop n count notices last₀ i₀ last i =
+    (i ≤ count) × (count ≤ length notices) × (misfiled n 0 (take count notices) ≡ misfiled n last (drop i (take count notices)))
 
 abbrev μ-loop : tie.MeasureT-loop
-μ-loop book n count last₀ i₀ last i = count - i
+μ-loop n count notices last₀ i₀ last i = count - i
 
 loop-holds : tie.Need-loop-holds Inv-loop μ-loop
 loop-holds c =
-    let n : length (c .args .t1 .notices) ≡ 48 = search (needs, length-mapped) in
+    let n : length (c .args .t2) ≡ 48 = search needs in
     (omega arith, omega arith, refl)
 
 mul-x : tie.Need-mul-x Inv-loop μ-loop
 mul-x c = search needs
 
-element-copy-out-x : tie.Need-element-copy-out-x Inv-loop μ-loop
-element-copy-out-x c = search needs
+array-copy-out-x : tie.Need-array-copy-out-x Inv-loop μ-loop
+array-copy-out-x c = search needs
 
 returns : tie.Need-returns Inv-loop μ-loop
 unfolding misfiled
 returns c =
     let a = c .before .before .before .before .before .args in
     let v = c .before .before .before .before .loop in
-    rw (v .inv .2, next-of (a .t1 .count) (a .t1 .notices) filler (v .i) (v .inv .1) (c .before .before .before .loop-test .taken), le-leb (getD (a .t1 .notices) (v .i) filler .number) (v .last) (omega arith))
+    rw (v .inv .2, next-of (a .count) (a .t2) filler (v .i) (v .inv .1) (c .before .before .before .loop-test .taken), le-leb (getD (a .t2) (v .i) filler .number) (v .last) (omega arith))
 
 unfit-requires : tie.Need-unfit-requires Inv-loop μ-loop
 unfit-requires c κs = search needs
@@ -43,7 +43,7 @@ unfolding misfiled
 returns-2 c =
     let a = c .before .before .before .before .before .before .before .args in
     let v = c .before .before .before .before .before .before .loop in
-    rw (v .inv .2, next-of (a .t1 .count) (a .t1 .notices) filler (v .i) (v .inv .1) (c .before .before .before .before .before .loop-test .taken), lt-leb (getD (a .t1 .notices) (v .i) filler .number) (v .last) (omega arith), ← c .before .unfit .ensures, c .if2 .taken)
+    rw (v .inv .2, next-of (a .count) (a .t2) filler (v .i) (v .inv .1) (c .before .before .before .before .before .loop-test .taken), lt-leb (getD (a .t2) (v .i) filler .number) (v .last) (omega arith), ← c .before .unfit .ensures, c .if2 .taken)
 
 add-i : tie.Need-add-i Inv-loop μ-loop
 add-i c = search needs
@@ -58,14 +58,14 @@ loop-again c =
     let v = c .before .before .before .before .before .before .loop in (
       omega arith,
       v .inv .1,
-      v .inv .2 ∙ rw (next-of (a .t1 .count) (a .t1 .notices) filler (v .i) (v .inv .1) (c .before .before .before .before .before .loop-test .taken), lt-leb (getD (a .t1 .notices) (v .i) filler .number) (v .last) (omega arith), ← c .before .unfit .ensures, c .if2 .left),
+      v .inv .2 ∙ rw (next-of (a .count) (a .t2) filler (v .i) (v .inv .1) (c .before .before .before .before .before .loop-test .taken), lt-leb (getD (a .t2) (v .i) filler .number) (v .last) (omega arith), ← c .before .unfit .ensures, c .if2 .left),
     )
 
 returns-3 : tie.Need-returns-3 Inv-loop μ-loop
 unfolding misfiled
 returns-3 c =
     let v = c .before .loop in
-    rw (v .inv .2, none-left-of (c .before .before .args .t1 .count) (c .before .before .args .t1 .notices) (v .i) (v .inv .1) (omega arith))
+    rw (v .inv .2, none-left-of (c .before .before .args .count) (c .before .before .args .t2) (v .i) (v .inv .1) (omega arith))
 
 pub misfiled-spec : {M : Type 1} → statement M
 misfiled-spec =
@@ -75,7 +75,7 @@ misfiled-spec =
     μ-loop
     loop-holds
     mul-x
-    element-copy-out-x
+    array-copy-out-x
     returns
     unfit-requires
     returns-2
