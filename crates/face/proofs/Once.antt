@@ -1,7 +1,8 @@
 -- No function of the face has a second answer: a sheet makes one book, and an answer is packed in one way.
-use mathlib.Core.Path.{_≡_, sym, ap, _∙_}
-use mathlib.Core.List.{List}
-use Prim.Native.Nat.{ℕ}
+use mathlib.Core.Path.{_≡_, refl, sym, ap, _∙_}
+use mathlib.Core.List.{List, [], _∷_}
+use Prim.Native.Nat.{ℕ, _/_, _%_, _<_}
+use native.Mathlib.Omega.{arith}
 use Rattle.table.specs.Reply.{Reply}
 use Rattle.book.specs.declared.Book.{Book}
 use Rattle.book.specs.declared.Kept.{Kept}
@@ -13,7 +14,7 @@ use Rattle.actions.proofs.Actions.{action-once}
 use Rattle.sheet.specs.declared.Header.{Header}
 use Rattle.sheet.specs.Entries.{partOf}
 use Rattle.sheet.proofs.Sheets.{header-once}
-use Rattle.face.specs.Packed.{packed, Tells}
+use Rattle.face.specs.Packed.{valueOf, packed, Tells}
 use Rattle.face.specs.Books.{Leaves, After, After.start, After.more, Over, OverSheet, ListedOver, ListsOver}
 
 pub tells-once : {A : Type 0} (promise : A → Type 0) (says : A → Reply) → ((x y : A) → promise x → promise y → x ≡ y) → (q r : ℕ) → Tells promise says q → Tells promise says r → q ≡ r
@@ -50,3 +51,12 @@ lists-over-once sheet before after later q r v w = go (w .header) (rw (header-on
         let e = lists-once (y .0) before after later (same .0) (z .0) (same .1) (z .1) in
         (same .2 ∙ ap (λ (a : Listing). packed (listingSays a)) (e .0) ∙ sym (z .2), e .1)
     go (Header.Refused why) x y = (x .0 ∙ sym (y .0), x .1 ∙ sym (y .1))
+
+-- what a host reads off a packed answer: 0 and the value of an accepted call, or the table's number and its value
+pub accepted-unpacks : (vs : List ℕ) → (packed (Reply.accepted vs) % 256 ≡ 0) × (packed (Reply.accepted vs) / 256 ≡ valueOf vs)
+accepted-unpacks [] = (refl, refl)
+accepted-unpacks (v ∷ vs) = (omega arith, omega arith)
+
+pub refused-unpacks : (k : ℕ) (vs : List ℕ) → k < 256 → (packed (Reply.refusedWith k vs) % 256 ≡ k) × (packed (Reply.refusedWith k vs) / 256 ≡ valueOf vs)
+refused-unpacks k [] h = (omega arith, omega arith)
+refused-unpacks k (v ∷ vs) h = (omega arith, omega arith)
