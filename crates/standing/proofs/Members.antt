@@ -141,6 +141,17 @@ insert-filed n m x (y ∷ ys) f h u s = go (decLt (y .number) (x .number)) (ℕ-
     go (no t) (no e) ih = rw (le-ltb (y .number) (x .number) (omega arith)) (h, u, (omega arith, f .1, f .2))
 
 -- what stands after a notice was withdrawn
+pub without-keeps : (k : ℕ) (x : Notice) (l : List Notice) → List·Memᴰ x l → (x .number ≡ k → ⊥) → List·Memᴰ x (without k l)
+unfolding without
+without-keeps k x [] m e = absurd (List·Memᴰ·not-nil m)
+without-keeps k x (y ∷ ys) m e = go (ℕ-discrete (y .number) k) (List·Memᴰ·cases-cons m) (without-keeps k x ys)
+  where
+    go : Dec (y .number ≡ k) → (x ≡ y) ⊎ List·Memᴰ x ys → (List·Memᴰ x ys → (x .number ≡ k → ⊥) → List·Memᴰ x (without k ys)) → List·Memᴰ x (without k (y ∷ ys))
+    go (yes q) (inl p) ih = absurd (e (ap (λ (z : Notice). z .number) p ∙ q))
+    go (yes q) (inr w) ih = rw (eq-eqb (y .number) k q) w
+    go (no q) (inl p) ih = rw (ne-eqb (y .number) k q) (List·Memᴰ·head p)
+    go (no q) (inr w) ih = rw (ne-eqb (y .number) k q) (List·Memᴰ·tail (ih w e))
+
 pub without-length : (k : ℕ) (l : List Notice) → length (without k l) ≤ length l
 unfolding without
 without-length k [] = omega arith
@@ -158,17 +169,6 @@ without-filed n m k (y ∷ ys) f = go (eqb (y .number) k) (without-filed n (y .n
     go : (b : Bool) → Filed n (y .number) (without k ys) → Filed n m (cond b ys (y ∷ without k ys))
     go true ih = let g = f .0 in filed-lower n m (y .number) ys (omega arith) (f .2)
     go false ih = (f .0, f .1, ih)
-
-pub without-keeps : (k : ℕ) (x : Notice) (l : List Notice) → List·Memᴰ x l → (x .number ≡ k → ⊥) → List·Memᴰ x (without k l)
-unfolding without
-without-keeps k x [] m e = absurd (List·Memᴰ·not-nil m)
-without-keeps k x (y ∷ ys) m e = go (ℕ-discrete (y .number) k) (List·Memᴰ·cases-cons m) (without-keeps k x ys)
-  where
-    go : Dec (y .number ≡ k) → (x ≡ y) ⊎ List·Memᴰ x ys → (List·Memᴰ x ys → (x .number ≡ k → ⊥) → List·Memᴰ x (without k ys)) → List·Memᴰ x (without k (y ∷ ys))
-    go (yes q) (inl p) ih = absurd (e (ap (λ (z : Notice). z .number) p ∙ q))
-    go (yes q) (inr w) ih = rw (eq-eqb (y .number) k q) w
-    go (no q) (inl p) ih = rw (ne-eqb (y .number) k q) (List·Memᴰ·head p)
-    go (no q) (inr w) ih = rw (ne-eqb (y .number) k q) (List·Memᴰ·tail (ih w e))
 
 pub without-member : (n m k : ℕ) (x : Notice) (l : List Notice) → Filed n m l → List·Memᴰ x (without k l) → List·Memᴰ x l × (x .number ≡ k → ⊥)
 unfolding without Filed
