@@ -46,14 +46,8 @@ module _ (checks : List Check) (given made : Book) (r : Kept) where
 pub either-of : (a : Bool) {made other b : Bool} → made ≡ (a || other) → other ≡ b → made ≡ (a || b)
 either-of a e f = e ∙ ap (λ (x : Bool). a || x) f
 
-pub turned-true : {made meant : Bool} → made ≡ meant → not made ≡ true → not meant ≡ true
-turned-true e f = ap not (sym e) ∙ f
-
-pub turned-false : {made meant : Bool} → made ≡ meant → not made ≡ false → not meant ≡ false
-turned-false e f = ap not (sym e) ∙ f
-
-pub sound-by : {made : Bool} {b : Book} → (made ≡ false → Sound b) → made ≡ false → Sound b
-sound-by f = f
+pub turned : {made meant b : Bool} → made ≡ meant → not made ≡ b → not meant ≡ b
+turned e f = ap not (sym e) ∙ f
 
 pub few-by : {made : Bool} {b : Book} → (made ≡ false → Sound b) → made ≡ false → b .n ≤ 12
 few-by f e = f e .few

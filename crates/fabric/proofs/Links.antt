@@ -6,7 +6,7 @@ use native.Mathlib.Omega.{arith}
 use lib.Pow.{pow-pos, pow-mono, pow-add, high}
 use Rattle.fabric.specs.Labels.{size, bit, Agree}
 use Rattle.fabric.specs.Links.{Code, lands}
-use Rattle.fabric.proofs.Bits.{low-of-low, low-more, turned, agree-less, agree-more, agree-bit, bit-of-low}
+use Rattle.fabric.proofs.Bits.{low-of-low, low-more, turned, agree-more, agree-bit, bit-of-low}
 
 -- what holds of the three codes holds of every code
 pub each-code : (P : ℕ → Type 0) → P 0 → P 1 → P 2 → (c : ℕ) → Code c → P c
@@ -104,9 +104,6 @@ module _ (n i : ℕ) (h : i < n) where
 
   -- a link leads toward d, one bit further, exactly when its switch agrees with d below bit i and it is straight where bit i
   -- is right and nonstraight where it is wrong
-  pub toward-needs : (c j d : ℕ) → Agree (suc i) (lands n i c j) d → Agree i j d
-  toward-needs c j d e = sym (low-bits-stay c j) ∙ agree-less i (suc i) (lands n i c j) d (omega arith) e
-
   pub toward-straight : (c j d : ℕ) → Agree (suc i) (lands n i c j) d → bit i j ≡ bit i d → c ≡ 0
   toward-straight zero j d e b = refl
   toward-straight (suc c) j d e b =

@@ -11,7 +11,7 @@ use lib.Dec.{eqb}
 use lib.Pow.{pow-mono}
 use Rattle.fabric.specs.Labels.{size, bit, Agree}
 use Rattle.fabric.specs.Links.{lands}
-use Rattle.fabric.proofs.Bits.{bit-lt, agree-below}
+use Rattle.fabric.proofs.Bits.{bit-lt}
 use Rattle.fabric.proofs.Links.{lands-lt, minus-then-plus, low-bits-stay, nonstraight-bit, straight-toward, nonstraight-toward}
 use Rattle.paths.specs.Frontier.{high, low}
 
@@ -44,9 +44,6 @@ module _ (n s d : ℕ) (source : s < size n) where
   unfolding high
   high-lt zero = source
   high-lt (suc i) = lands-lt n i (cond (highRight n s d i) 0 1) (high n s d i) (high-lt i)
-
-  pub low-lt : (i : ℕ) → low n s d i < size n
-  low-lt i = lands-lt n i 2 (high n s d i) (high-lt i)
 
   pub high-agrees : (i : ℕ) → i ≤ n → Agree i (high n s d i) d
   unfolding high
@@ -105,7 +102,3 @@ module _ (n s d : ℕ) (source : s < size n) where
 
     pub low-bit-right : bit i (low n s d i) ≡ bit i d
     low-bit-right = let e = low-bit i inside in let f = high-bit-wrong in let b = bit-lt i d in omega arith
-
-  -- in column n the two are one, and it is d
-  pub high-ends : d < size n → high n s d n ≡ d
-  high-ends h = agree-below n (high n s d n) d (high-lt n) h (high-agrees n (omega arith))

@@ -5,7 +5,7 @@ use borrow.Author.Tests.{not-false}
 use borrow.Author.Needs.{needs}
 use lib.ListN.{length}
 use Rattle.table.proofs.Checks.{refusing, accepting}
-use Rattle.book.proofs.Answers.{hands-back-done-as, turned-true, turned-false, hands-back-refused}
+use Rattle.book.proofs.Answers.{hands-back-done-as, turned, hands-back-refused}
 use Rattle.book.specs.Standing.{standing}
 use Rattle.standing.proofs.Arrays.{length-mapped}
 use Rattle.book.proofs.Placing.{length-standing}
@@ -35,7 +35,7 @@ refused-requires-3 : tie.Need-refused-requires-3
 refused-requires-3 c κs = search needs
 
 returns-3 : tie.Need-returns-3
-returns-3 c = search (hands-back-refused, refusing, turned-true) depth 12
+returns-3 c = search (hands-back-refused, refusing, turned) depth 12
 
 removed-requires : tie.Need-removed-requires
 removed-requires c κs =
@@ -52,7 +52,7 @@ done-requires : tie.Need-done-requires
 done-requires c κs = search needs
 
 returns-4 : tie.Need-returns-4
-returns-4 c = search (hands-back-done-as, accepting, turned-false) depth 12
+returns-4 c = search (hands-back-done-as, accepting, turned) depth 12
 
 pub withdraw-spec : {M : Type 1} → statement M
 withdraw-spec =
