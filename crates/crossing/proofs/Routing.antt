@@ -1,8 +1,8 @@
 -- The frontier over a book's marks: one stage on, empty, and at its end.
 use mathlib.Core.Path.{_≡_, sym, ap, subst, _∙_}
-use mathlib.Core.Bool.{Bool, true, false, _||_}
+use mathlib.Core.Bool.{Bool}
 use mathlib.Core.List.{List}
-use Prim.Native.Nat.{ℕ, suc, _+_, _*_, _<_}
+use Prim.Native.Nat.{ℕ, suc, _+_, _*_, _≤_, _<_}
 use native.Mathlib.Numerals.{add-one}
 use native.Mathlib.Omega.{arith}
 use lib.ListN.{getD}
@@ -10,9 +10,9 @@ use Rattle.fabric.specs.Labels.{size, bit}
 use Rattle.paths.specs.declared.Front.{Front}
 use Rattle.paths.specs.declared.Stops.{Stops}
 use Rattle.paths.specs.Clear.{Rule}
-use Rattle.paths.specs.Frontier.{high, lesser, advanced, stopsFrom}
+use Rattle.paths.specs.Frontier.{high, lesser, advanced, mirrored, stopsFrom}
 use Rattle.paths.proofs.Pivots.{highRight}
-use Rattle.paths.proofs.Frontier.{Holds, Found, looks-from, lesser-reached, advanced-holds, none-reached, some-reached, found-first, stage-named, none-clear}
+use Rattle.paths.proofs.Frontier.{Holds, Found, looks-from, advanced-holds, onward-best, found-first, stage-named, none-clear}
 use Rattle.crossing.specs.declared.Found as answer
 use Rattle.crossing.specs.Routed.{Routed}
 use Rattle.crossing.specs.Marked.{Marked, unmarked}
@@ -20,24 +20,24 @@ use Rattle.crossing.specs.Marked.{Marked, unmarked}
 module _ (n : ℕ) (stops : Rule) (s d : ℕ) (source : s < size n) where
   -- one stage on, by what the marks hold
   pub front-on : (marks : List Stops) → Marked n stops s d marks → (i t : ℕ) (right : Bool) → i < n → highRight n s d i ≡ right → t ≡ bit i d
-      → (front next : Front) → next ≡ advanced right t (getD marks i unmarked) i front → Holds n stops s d i front → Holds n stops s d (i + 1) next
+      → (front next : Front) → next ≡ advanced n right t (getD marks i unmarked) front → Holds n stops s d i front → Holds n stops s d (i + 1) next
   front-on marks marked i t right h er et front next e held =
       let look : getD marks i unmarked ≡ stopsFrom stops n i (high n s d i) right = marked i h ∙ ap (stopsFrom stops n i (high n s d i)) er in
       let w = advanced-holds n stops s d source i h right er (getD marks i unmarked) (looks-from n stops s d i right (getD marks i unmarked) look) front held in
       subst (λ (k : ℕ). Holds n stops s d k next) (sym (add-one i))
-      (subst (Holds n stops s d (suc i)) (sym (e ∙ ap (λ (x : ℕ). advanced right x (getD marks i unmarked) i front) et)) w)
+      (subst (Holds n stops s d (suc i)) (sym (e ∙ ap (λ (x : ℕ). advanced n right x (getD marks i unmarked) front) et)) w)
 
   -- a frontier that is reached no more
-  pub none-ahead : (i : ℕ) → i < n → (front next : Front) → Holds n stops s d i front → (front .high .reached || front .low .reached) ≡ true
-      → Holds n stops s d (i + 1) next → (next .high .reached || next .low .reached) ≡ false → Routed n stops s d (answer.Found.None i)
+  pub none-ahead : (i : ℕ) → i < n → (front next : Front) → Holds n stops s d i front → lesser (front .high) (front .low) < size n
+      → Holds n stops s d (i + 1) next → size n ≤ lesser (next .high) (next .low) → Routed n stops s d (answer.Found.None i)
   none-ahead i h front next held alive held' gone =
-      let w = some-reached n stops s d source i (omega arith) front held alive in
-      let empty = none-reached n stops s d source (suc i) h next (subst (λ (k : ℕ). Holds n stops s d k next) (add-one i) held') gone in
-      (none-clear n stops s d source i h empty, stage-named n stops s d source i h (w .0) (w .1) empty)
+      let w = onward-best n stops s d source i (omega arith) front held .reached alive in
+      let empty = onward-best n stops s d source (suc i) h next (subst (λ (k : ℕ). Holds n stops s d k next) (add-one i) held') .unreached gone in
+      (none-clear n stops s d source i h empty, stage-named n stops s d source i h (w .walk) (w .among) empty)
 
   -- a frontier that reaches the last column
-  pub found-ahead : d < size n → (i tag : ℕ) → i ≡ n → (front : Front) → Holds n stops s d i front → (front .high .reached || front .low .reached) ≡ true
-      → tag ≡ d + size n * lesser (front .high) (front .low) .states → Routed n stops s d (answer.Found.Tag tag)
+  pub found-ahead : d < size n → (i tag : ℕ) → i ≡ n → (front : Front) → Holds n stops s d i front → lesser (front .high) (front .low) < size n
+      → tag ≡ d + size n * mirrored n (lesser (front .high) (front .low)) → Routed n stops s d (answer.Found.Tag tag)
   found-ahead hd i tag e front held alive et =
-      let w = found-first n stops s d source hd front (subst (λ (k : ℕ). Holds n stops s d k front) e held) (lesser-reached (front .high) (front .low) alive) in
+      let w = found-first n stops s d source hd front (subst (λ (k : ℕ). Holds n stops s d k front) e held) alive in
       (w .steps, w .first, et ∙ w .normal)

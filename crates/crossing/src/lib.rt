@@ -21,20 +21,17 @@ pub fn cross(n: u8, source: u16, destination: u16, marks: [Stops; 13]) -> Found
     ensures { λ r. ⌜ ((stops : Rule) → Marked n stops source destination marks → Routed n stops source destination r) ⌝ }
 {
     let apart = std::num::wrapping_sub_u16(destination, source);
-    let mut front = paths::at_source();
+    let mut front = paths::at_source(n);
     let mut i = 0;
     while i < n {
         let stops = marks[i as usize];
         let t = fabric::bit_of(i, destination);
         let right = fabric::bit_of(i, apart) == 0;
-        front = paths::advance(front, right, t, stops, i);
-        if !paths::reached(front) {
+        front = paths::advance(n, front, right, t, stops);
+        if !paths::reached(n, front) {
             return Found::None(i);
         }
         i += 1;
     }
-    let high = front.high;
-    let low = front.low;
-    let first = paths::first_of(high, low);
-    Found::Tag(scheme::joined(n, destination, first.states))
+    Found::Tag(scheme::joined(n, destination, paths::first_states(n, front)))
 }

@@ -1,29 +1,27 @@
 -- The frontier, carried forward stage by stage, holds the first clear walk to each of its two switches; so the end of it is
 -- the first clear path, and where it is empty is the stage named.
 use mathlib.Core.Path.{_≡_, refl, sym, ap, ap₂, subst, _∙_}
-use mathlib.Core.Bool.{_||_, Bool, true, false, cond, true≢false}
+use mathlib.Core.Bool.{Bool, true, false, cond}
 use mathlib.Core.List.{List, []}
 use mathlib.Core.Logic.{⊎-elim}
 use Prim.Native.Nat.{ℕ, suc, zero-le, _+_, _-_, _*_, _≤_, _<_}
 use native.Mathlib.Decide.{decLe}
 use native.Mathlib.Omega.{arith}
-use lib.Dec.{leb}
 use lib.ListN.{take}
+use lib.Pow.{pow-pos}
 use Rattle.fabric.specs.Labels.{size, bit}
 use Rattle.fabric.proofs.Bits.{bit-lt}
 use Rattle.scheme.specs.Scheme.{stateFor}
-use Rattle.scheme.specs.Tags.{statesOf, normalTag}
+use Rattle.scheme.specs.Tags.{normalTag}
 use Rattle.scheme.proofs.Table.{stateFor-plus, stateFor-minus}
-use Rattle.table.proofs.Checks.{neither}
-use Rattle.paths.specs.declared.Place.{Place}
 use Rattle.paths.specs.declared.Front.{Front}
 use Rattle.paths.specs.declared.Stops.{Stops}
 use Rattle.paths.specs.Clear.{Rule, Onward, ClearPath, First, NoneCross, StageNamed}
-use Rattle.paths.specs.Frontier.{stopsFrom, high, low, start, through, lesser, advanced}
-use Rattle.paths.proofs.Keys.{keyOf}
+use Rattle.paths.specs.Frontier.{stopsFrom, high, low, start, through, lesser, advanced, mirrored}
+use Rattle.paths.proofs.Keys.{keyOf, key-mirrored}
 use Rattle.paths.proofs.Walks.{shorter, onward-path, path-onward}
 use Rattle.paths.proofs.Pivots.{highRight, low-bit-wrong, high-bit-wrong}
-use Rattle.paths.proofs.Best.{Best, Via, nowhere-best, through-best, lesser-best}
+use Rattle.paths.proofs.Best.{Best, Via, none-best, best-as, through-best, lesser-best}
 use Rattle.paths.proofs.Sides.{Arrives, sides, sides-complete, up-onward, down-onward, up-arrives, down-arrives, next}
 use Rattle.paths.proofs.Order.{earlier-key}
 
@@ -48,35 +46,24 @@ pub looks-from : (n : ℕ) (stops : Rule) (s d i : ℕ) (right : Bool) (x : Stop
 looks-from n stops s d i true x e = rw e (record { straight = refl; plus = refl; minus = refl })
 looks-from n stops s d i false x e = rw e (record { straight = refl; plus = refl; minus = refl })
 
--- where one of two places is reached, so is the lesser
-pub lesser-reached : (p q : Place) → (p .reached || q .reached) ≡ true → lesser p q .reached ≡ true
-unfolding lesser
-lesser-reached p q e = go (p .reached) refl (q .reached) refl (leb (p .key) (q .key)) e
-  where
-    go : (x : Bool) → p .reached ≡ x → (y : Bool) → q .reached ≡ y → (z : Bool) → (x || y) ≡ true → cond x (cond y (cond z p q) p) q .reached ≡ true
-    go true a true b true h = a
-    go true a true b false h = b
-    go true a false b z h = a
-    go false a y b z h = b ∙ h
-
 module _ (n : ℕ) (stops : Rule) (s d : ℕ) (source : s < size n) where
-  pub start-holds : Holds n stops s d 0 start
-  unfolding sides keyOf statesOf
+  pub start-holds : Holds n stops s d 0 (start n)
+  unfolding sides keyOf
   start-holds =
       record {
         high = record {
-          reached = λ e. record { walk = []; among = refl; keyed = refl; stated = refl; least = λ cs w. zero-le };
-          unreached = λ e. absurd (true≢false e);
+          reached = λ l. record { walk = []; among = refl; keyed = refl; least = λ cs w. zero-le };
+          unreached = λ l. let p = pow-pos n in absurd (omega arith);
         };
-        low = nowhere-best n s (λ cs. ⊥) (λ cs e. e);
+        low = none-best n s (λ cs. ⊥) (λ cs e. e) (size n) (omega arith);
       }
 
-  -- a place after one link more
-  onward-by : (i j c state stop : ℕ) (P : List ℕ → Type 0) (p : Place) → ((cs : List ℕ) → P cs → Arrives n stops s d i j cs)
-      → state ≡ stateFor (bit i j) c → stop ≡ stops i j c → Best n s P p → Best n s (Via stops i j c P) (through p stop state i)
-  onward-by i j c state stop P p arrives es e b =
-      subst (λ (x : ℕ). Best n s (Via stops i j c P) (through p x state i)) (sym e)
-      (through-best n s stops i j c state P p (λ cs w. let a = arrives cs w in (a .onward .links, a .at)) es b)
+  -- the first walks with one link more
+  onward-by : (i j c state stop : ℕ) (P : List ℕ → Type 0) (p : ℕ) → i < n → ((cs : List ℕ) → P cs → Arrives n stops s d i j cs)
+      → state ≡ stateFor (bit i j) c → stop ≡ stops i j c → Best n s P p → Best n s (Via stops i j c P) (through n p stop state)
+  onward-by i j c state stop P p h arrives es e b =
+      subst (λ (x : ℕ). Best n s (Via stops i j c P) (through n p x state)) (sym e)
+      (through-best n s stops i j c state P p h (λ cs w. let a = arrives cs w in (a .onward .links, a .at)) es b)
 
   -- the states of plus and minus at a switch whose bit is wrong
   plus-state : (i j : ℕ) → bit i j ≡ 1 - bit i d → 1 - bit i d ≡ stateFor (bit i j) 1
@@ -86,8 +73,8 @@ module _ (n : ℕ) (stops : Rule) (s d : ℕ) (source : s < size n) where
   minus-state i j e = let t = bit-lt i d in sym (stateFor-minus (bit i j) 2 (bit-lt i j) (omega arith) ∙ ap (λ (x : ℕ). 1 - x) e ∙ omega arith)
 
   record Stepped (i : ℕ) (b right : Bool) (x : Stops) (f : Front) : Type 0 where
-    high : Best n s (next n stops s d i b (sides n stops s d i) .up) (advanced right (bit i d) x i f .high)
-    low : Best n s (next n stops s d i b (sides n stops s d i) .down) (advanced right (bit i d) x i f .low)
+    high : Best n s (next n stops s d i b (sides n stops s d i) .up) (advanced n right (bit i d) x f .high)
+    low : Best n s (next n stops s d i b (sides n stops s d i) .down) (advanced n right (bit i d) x f .low)
 
   stepped : (i : ℕ) → i < n → (right : Bool) → highRight n s d i ≡ right → (x : Stops) → Looks n stops s d i right x → (f : Front)
       → Holds n stops s d i f → Stepped i right right x f
@@ -102,9 +89,9 @@ module _ (n : ℕ) (stops : Rule) (s d : ℕ) (source : s < size n) where
       record {
         high =
             lesser-best n s (Via stops i hi 0 (w .up)) (Via stops i lo 1 (w .down)) _ _
-            (onward-by i hi 0 0 (x .straight) (w .up) (f .high) up refl (look .straight) (held .high))
-            (onward-by i lo 1 (1 - bit i d) (x .plus) (w .down) (f .low) down (plus-state i lo wrong) (look .plus) (held .low));
-        low = onward-by i lo 2 (bit i d) (x .minus) (w .down) (f .low) down (minus-state i lo wrong) (look .minus) (held .low);
+            (onward-by i hi 0 0 (x .straight) (w .up) (f .high) h up refl (look .straight) (held .high))
+            (onward-by i lo 1 (1 - bit i d) (x .plus) (w .down) (f .low) h down (plus-state i lo wrong) (look .plus) (held .low));
+        low = onward-by i lo 2 (bit i d) (x .minus) (w .down) (f .low) h down (minus-state i lo wrong) (look .minus) (held .low);
       }
   stepped i h false e x look f held =
       let hi : ℕ = high n s d i in
@@ -114,57 +101,34 @@ module _ (n : ℕ) (stops : Rule) (s d : ℕ) (source : s < size n) where
       let wrong = high-bit-wrong n s d source i h e in
       let w = sides n stops s d i in
       record {
-        high = onward-by i hi 1 (1 - bit i d) (x .plus) (w .up) (f .high) up (plus-state i hi wrong) (look .plus) (held .high);
+        high = onward-by i hi 1 (1 - bit i d) (x .plus) (w .up) (f .high) h up (plus-state i hi wrong) (look .plus) (held .high);
         low =
             lesser-best n s (Via stops i lo 0 (w .down)) (Via stops i hi 2 (w .up)) _ _
-            (onward-by i lo 0 0 (x .straight) (w .down) (f .low) down refl (look .straight) (held .low))
-            (onward-by i hi 2 (bit i d) (x .minus) (w .up) (f .high) up (minus-state i hi wrong) (look .minus) (held .high));
+            (onward-by i lo 0 0 (x .straight) (w .down) (f .low) h down refl (look .straight) (held .low))
+            (onward-by i hi 2 (bit i d) (x .minus) (w .up) (f .high) h up (minus-state i hi wrong) (look .minus) (held .high));
       }
 
   -- the frontier one stage on
   pub advanced-holds : (i : ℕ) → i < n → (right : Bool) → highRight n s d i ≡ right → (x : Stops) → Looks n stops s d i right x → (f : Front)
-      → Holds n stops s d i f → Holds n stops s d (suc i) (advanced right (bit i d) x i f)
+      → Holds n stops s d i f → Holds n stops s d (suc i) (advanced n right (bit i d) x f)
   unfolding sides
   advanced-holds i h right e x look f held =
       let w = subst (λ (b : Bool). Stepped i b right x f) (sym e) (stepped i h right e x look f held) in
       record { high = w .high; low = w .low }
 
-  -- where neither switch of a column is reached, no clear walk arrives there; where one is, some walk does
-  pub none-reached : (i : ℕ) → i ≤ n → (f : Front) → Holds n stops s d i f → (f .high .reached || f .low .reached) ≡ false
-      → (cs : List ℕ) → Onward n stops s d i cs → ⊥
-  none-reached i h f held e cs w =
-      let o = neither (f .high .reached) (f .low .reached) e in
-      ⊎-elim (held .high .unreached (o .0) cs) (held .low .unreached (o .1) cs) (sides-complete n stops s d source i h cs w)
+  -- the lesser of the two is the first of all clear walks onward
+  pub onward-best : (i : ℕ) → i ≤ n → (f : Front) → Holds n stops s d i f → Best n s (Onward n stops s d i) (lesser (f .high) (f .low))
+  onward-best i h f held =
+      best-as n s
+      (λ cs v. ⊎-elim (up-onward n stops s d source i h cs) (down-onward n stops s d source i h cs) v)
+      (λ cs u. sides-complete n stops s d source i h cs u)
+      (lesser-best n s _ _ (f .high) (f .low) (held .high) (held .low))
 
-  pub some-reached : (i : ℕ) → i ≤ n → (f : Front) → Holds n stops s d i f → (f .high .reached || f .low .reached) ≡ true
-      → (cs : List ℕ) × Onward n stops s d i cs
-  some-reached i h f held e = go (f .high .reached) refl e
-    where
-      go : (b : Bool) → f .high .reached ≡ b → (b || f .low .reached) ≡ true → (cs : List ℕ) × Onward n stops s d i cs
-      go true x y = let w = held .high .reached x in (w .walk, up-onward n stops s d source i h (w .walk) (w .among))
-      go false x y = let w = held .low .reached y in (w .walk, down-onward n stops s d source i h (w .walk) (w .among))
-
-  -- at the end the lesser of the two is the first of all clear paths
-  both-sides : (f : Front) → Holds n stops s d n f → Best n s (Onward n stops s d n) (lesser (f .high) (f .low))
-  both-sides f held =
-      let w = lesser-best n s _ _ (f .high) (f .low) (held .high) (held .low) in
-      record {
-        reached = λ e.
-            let v = w .reached e in
-            record {
-              walk = v .walk;
-              among = ⊎-elim (up-onward n stops s d source n (omega arith) (v .walk)) (down-onward n stops s d source n (omega arith) (v .walk)) (v .among);
-              keyed = v .keyed;
-              stated = v .stated;
-              least = λ cs u. v .least cs (sides-complete n stops s d source n (omega arith) cs u);
-            };
-        unreached = λ e cs u. w .unreached e cs (sides-complete n stops s d source n (omega arith) cs u);
-      }
-
-  pub found-first : d < size n → (f : Front) → Holds n stops s d n f → lesser (f .high) (f .low) .reached ≡ true → Found n stops s d (d + size n * lesser (f .high) (f .low) .states)
+  -- at the end it is the first clear path
+  pub found-first : d < size n → (f : Front) → Holds n stops s d n f → lesser (f .high) (f .low) < size n
+      → Found n stops s d (d + size n * mirrored n (lesser (f .high) (f .low)))
   found-first hd f held e =
-      let p : Place = lesser (f .high) (f .low) in
-      let w = both-sides f held .reached e in
+      let w = onward-best n (omega arith) f held .reached e in
       let path = onward-path n stops s d source hd (w .walk) (w .among) in
       record {
         steps = w .walk;
@@ -176,7 +140,9 @@ module _ (n : ℕ) (stops : Rule) (s d : ℕ) (source : s < size n) where
               let m = earlier-key n s d ds (w .walk) (q .path) (path .path) b in
               absurd (omega arith);
         };
-        normal = ap₂ (λ (x y : ℕ). x + size n * y) (sym (path .path .arrives)) (w .stated);
+        normal =
+            ap₂ (λ (x y : ℕ). x + size n * y) (sym (path .path .arrives))
+            (ap₂ mirrored (sym (w .among .links)) (w .keyed) ∙ key-mirrored n 0 s (w .walk));
       }
 
   -- a frontier that was reached in column i and is not in the next names stage i

@@ -1,97 +1,94 @@
--- Laws of the frontier's bookkeeping: which case holds when, and that the states of i stages fit i bits.
-use mathlib.Core.Path.{_≡_, sym, ap, ap₂, subst, _∙_}
-use mathlib.Core.Bool.{Bool, true, false, cond, _&&_, and-false}
-use Prim.Native.Nat.{ℕ, zero, suc, _+_, _-_, _*_, _^_, _≤_, _<_}
+-- Laws of the frontier's bookkeeping: which case holds when, and that its numbers fit.
+use mathlib.Core.Path.{_≡_, sym, ap, subst, _∙_}
+use mathlib.Core.Bool.{Bool, true, false, cond}
+use Prim.Native.Nat.{ℕ, suc, zero-le, _+_, _-_, _*_, _^_, _≤_, _<_}
 use native.Mathlib.Nat.{pow-suc}
 use native.Mathlib.Omega.{arith}
 use borrow.Author.Tests.{eq-eqb, ne-eqb, le-leb, lt-leb}
 use lib.Dec.{eqb, leb}
 use lib.Pow.{pow-pos, pow-mono}
-use Rattle.paths.specs.declared.Place.{Place}
+use Rattle.fabric.specs.Labels.{size}
 use Rattle.paths.specs.declared.Front.{Front}
 use Rattle.paths.specs.declared.Stops.{Stops}
-use Rattle.paths.specs.Frontier.{Small, nowhere, through, lesser, advanced}
+use Rattle.paths.specs.Frontier.{Small, lostBy, through, lesser, advanced}
 
-abbrev pub taken : Place → ℕ → ℕ → Place
-taken p state added = record { reached = true; key = p .key * 2 + state; states = p .states + added }
+pub few-labels : (n : ℕ) → n ≤ 12 → size n ≤ 4096
+few-labels n h = pow-mono {j = 12} h
 
-module _ (p : Place) (stop state i : ℕ) where
-  pub unreached-through : {r : Place} → r ≡ nowhere → p .reached ≡ false → r ≡ through p stop state i
-  unfolding through
-  unreached-through {r} e f = e ∙ sym (ap (λ (b : Bool). cond (b && eqb stop 0) (taken p state (state * 2 ^ i)) nowhere) f)
+module _ (n stop : ℕ) where
+  pub clear-lost : {r : ℕ} → r ≡ 0 → stop ≡ 0 → r ≡ lostBy n stop
+  clear-lost e z = e ∙ sym (ap (λ (b : Bool). cond b 0 (size n)) (eq-eqb stop 0 z))
 
-  pub stopped-through : {r : Place} → r ≡ nowhere → (stop ≡ 0 → ⊥) → r ≡ through p stop state i
-  unfolding through
-  stopped-through {r} e f =
-      e
-      ∙ sym (ap (λ (b : Bool). cond (p .reached && b) (taken p state (state * 2 ^ i)) nowhere) (ne-eqb stop 0 f)
-      ∙ ap (λ (b : Bool). cond b (taken p state (state * 2 ^ i)) nowhere) (and-false (p .reached)))
+  pub stopped-lost : {r : ℕ} → r ≡ size n → (stop ≡ 0 → ⊥) → r ≡ lostBy n stop
+  stopped-lost e z = e ∙ sym (ap (λ (b : Bool). cond b 0 (size n)) (ne-eqb stop 0 z))
 
-  pub taken-through : {added : ℕ} → p .reached ≡ true → stop ≡ 0 → added ≡ state * 2 ^ i → taken p state added ≡ through p stop state i
-  unfolding through
-  taken-through {added} e f g =
-      ap (taken p state) g
-      ∙ sym (ap₂ (λ (a b : Bool). cond (a && b) (taken p state (state * 2 ^ i)) nowhere) e (eq-eqb stop 0 f))
-
-pub nowhere-small : (i : ℕ) {r : Place} → r ≡ nowhere → Small (suc i) r
-nowhere-small i {r} e = subst (Small (suc i)) (sym e) (record { key = pow-pos (suc i); states = pow-pos (suc i) })
-
--- a state shifted to bit i
-pub bit-small : (state i added : ℕ) → state < 2 → added ≡ state * 2 ^ i → added ≤ 2 ^ i
-bit-small zero i added h e = omega arith
-bit-small (suc zero) i added h e = omega arith
-bit-small (suc (suc state)) i added h e = absurd (omega arith)
-
-pub taken-small : (p : Place) (state i : ℕ) {added : ℕ} → state < 2 → added ≡ state * 2 ^ i → Small i p → Small (suc i) (taken p state added)
-taken-small p state i {added} h e w =
-    let d = pow-suc 2 i in
-    let k = w .key in
-    let t = w .states in
-    let l = bit-small state i added h e in
-    record { key = omega arith; states = omega arith }
-
-pub few-bits : (i : ℕ) → i < 12 → 2 ^ i ≤ 2048
-few-bits i h = pow-mono {j = 11} (omega arith)
-
-module _ (p q : Place) where
-  pub lesser-right : p .reached ≡ false → q ≡ lesser p q
-  unfolding lesser
-  lesser-right e = sym (ap (λ (a : Bool). cond a (cond (q .reached) (cond (leb (p .key) (q .key)) p q) p) q) e)
-
-  pub lesser-left : p .reached ≡ true → q .reached ≡ false → p ≡ lesser p q
-  unfolding lesser
-  lesser-left e f = sym (ap₂ (λ (a b : Bool). cond a (cond b (cond (leb (p .key) (q .key)) p q) p) q) e f)
-
-  lesser-both : (z : Bool) → p .reached ≡ true → q .reached ≡ true → leb (p .key) (q .key) ≡ z → lesser p q ≡ cond z p q
-  unfolding lesser
-  lesser-both z e f g = ap₂ (λ (a b : Bool). cond a (cond b (cond (leb (p .key) (q .key)) p q) p) q) e f ∙ ap (λ (c : Bool). cond c p q) g
-
-  pub lesser-earlier : p .reached ≡ true → q .reached ≡ true → p .key ≤ q .key → p ≡ lesser p q
-  lesser-earlier e f l = sym (lesser-both true e f (le-leb (p .key) (q .key) l))
-
-  pub lesser-later : p .reached ≡ true → q .reached ≡ true → q .key < p .key → q ≡ lesser p q
-  lesser-later e f l = sym (lesser-both false e f (lt-leb (p .key) (q .key) l))
-
-  pub lesser-small : (i : ℕ) {r : Place} → r ≡ lesser p q → Small i p → Small i q → Small i r
-  unfolding lesser
-  lesser-small i e a b = subst (Small i) (sym e) (of (p .reached) (q .reached) (leb (p .key) (q .key)))
+  pub lost-small : n ≤ 12 → lostBy n stop ≤ 4096
+  lost-small h = let f = few-labels n h in of (eqb stop 0) f
     where
-      of : (x y z : Bool) → Small i (cond x (cond y (cond z p q) p) q)
-      of true true true = a
-      of true true false = b
-      of true false z = a
-      of false y z = b
+      of : (b : Bool) → size n ≤ 4096 → cond b 0 (size n) ≤ 4096
+      of true f = omega arith
+      of false f = f
+
+pub through-of : (n p stop state : ℕ) {r : ℕ} → r ≡ lostBy n stop → p * 2 + state + r ≡ through n p stop state
+unfolding through
+through-of n p stop state e = ap (λ (x : ℕ). p * 2 + state + x) e
+
+module _ (p q : ℕ) where
+  pub lesser-earlier : p ≤ q → p ≡ lesser p q
+  unfolding lesser
+  lesser-earlier l = sym (ap (λ (b : Bool). cond b p q) (le-leb p q l))
+
+  pub lesser-later : q < p → q ≡ lesser p q
+  unfolding lesser
+  lesser-later l = sym (ap (λ (b : Bool). cond b p q) (lt-leb p q l))
+
+-- in column 0 the source is reached
+pub start-reached : (n : ℕ) → lesser 0 (size n) < size n
+start-reached n = subst (λ (x : ℕ). x < size n) (lesser-earlier 0 (size n) zero-le) (pow-pos n)
+
+-- what holds of both holds of the one that is chosen
+pub chosen-has : (P : ℕ → Type 0) (b : Bool) {p q : ℕ} → P p → P q → P (cond b p q)
+chosen-has P true x y = x
+chosen-has P false x y = y
+
+lesser-has : (P : ℕ → Type 0) {p q : ℕ} → P p → P q → P (lesser p q)
+unfolding lesser
+lesser-has P {p} {q} x y = chosen-has P (leb p q) x y
+
+pub chosen-below : (b : Bool) {r p q m : ℕ} → r ≡ cond b p q → p < m → q < m → r < m
+chosen-below b {r} {p} {q} {m} e x y = subst (λ (z : ℕ). z < m) (sym e) (chosen-has (λ (z : ℕ). z < m) b x y)
 
 -- the frontier one stage on, from what its links give
-module _ (right : Bool) (t : ℕ) (x : Stops) (i : ℕ) (f : Front) {straight up down met : Place} where
-  pub advanced-high : right ≡ true → straight ≡ through (f .high) (x .straight) 0 i → up ≡ through (f .low) (x .plus) (1 - t) i
-      → down ≡ through (f .low) (x .minus) t i → met ≡ lesser straight up
-      → _≡_ {A = Front} (record { high = met; low = down }) (advanced right t x i f)
-  unfolding advanced
-  advanced-high e es eu ed em = rw (e, em, es, eu, ed)
+pub advanced-of : (n : ℕ) (right : Bool) (t : ℕ) (x : Stops) (f : Front) {stays forks straight up down other met high low : ℕ}
+    → stays ≡ cond right (f .high) (f .low) → forks ≡ cond right (f .low) (f .high)
+    → straight ≡ through n stays (x .straight) 0 → up ≡ through n forks (x .plus) (1 - t) → down ≡ through n forks (x .minus) t
+    → other ≡ cond right up down → met ≡ lesser straight other → high ≡ cond right met up → low ≡ cond right down met
+    → _≡_ {A = Front} (record { high = high; low = low }) (advanced n right t x f)
+unfolding advanced
+advanced-of n right t x f es ef ea eu ed eo em eh el = rw (eh, el, em, eo, ea, eu, ed, es, ef)
 
-  pub advanced-low : right ≡ false → straight ≡ through (f .low) (x .straight) 0 i → up ≡ through (f .high) (x .plus) (1 - t) i
-      → down ≡ through (f .high) (x .minus) t i → met ≡ lesser straight down
-      → _≡_ {A = Front} (record { high = up; low = met }) (advanced right t x i f)
+-- the numbers of a frontier in column i fit, and so do those one stage on
+module _ (n i : ℕ) (few : n ≤ 12) where
+  through-small : (p stop state : ℕ) → state < 2 → Small i p → Small (suc i) (through n p stop state)
+  unfolding through
+  through-small p stop state h w =
+      let l = lost-small n stop few in
+      let d : 2 ^ (suc i + 14) ≡ 2 ^ (i + 14) * 2 = ap (λ (m : ℕ). 2 ^ m) {x = suc i + 14} {y = suc (i + 14)} (omega arith) ∙ pow-suc 2 (i + 14) in
+      omega arith
+
+  pub advanced-small : (right : Bool) (t : ℕ) (x : Stops) (f : Front) → t < 2 → Small i (f .high) → Small i (f .low)
+      → Small (suc i) (advanced n right t x f .high) × Small (suc i) (advanced n right t x f .low)
   unfolding advanced
-  advanced-low e es eu ed em = rw (e, em, es, eu, ed)
+  advanced-small right t x f h a b =
+      let S : ℕ → Type 0 = Small (suc i) in
+      let stays = chosen-has (Small i) right a b in
+      let forks = chosen-has (Small i) right b a in
+      let straight = through-small _ (x .straight) 0 (omega arith) stays in
+      let up = through-small _ (x .plus) (1 - t) (omega arith) forks in
+      let down = through-small _ (x .minus) t h forks in
+      let other = chosen-has S right up down in
+      let met = lesser-has S straight other in
+      (chosen-has S right met up, chosen-has S right down met)
+
+pub small-fits : (i p : ℕ) → i < 12 → Small i p → p < 33554432
+small-fits i p h w = let m : 2 ^ (i + 14) ≤ 2 ^ 25 = pow-mono {j = 25} (omega arith) in omega arith

@@ -1,32 +1,28 @@
 -- The router's own bookkeeping, stage by stage. Nobody has to believe it: `advanced-holds`, `found-first` and `stage-named`
 -- tie it to the definitions of Clear.antt.
-use mathlib.Core.Bool.{Bool, true, false, cond, _&&_}
-use Prim.Native.Nat.{ℕ, zero, suc, _+_, _-_, _*_, _^_, _<_}
+use mathlib.Core.Bool.{Bool, cond}
+use Prim.Native.Nat.{ℕ, zero, suc, _+_, _-_, _*_, _^_, _≤_}
 use lib.Dec.{eqb, leb}
-use Rattle.fabric.specs.Labels.{bit}
+use Rattle.fabric.specs.Labels.{size, bit}
 use Rattle.fabric.specs.Links.{lands}
-use Rattle.paths.specs.declared.Place.{Place}
 use Rattle.paths.specs.declared.Front.{Front}
 use Rattle.paths.specs.declared.Stops.{Stops}
 
--- nothing reaches it
-abbrev pub nowhere : Place
-nowhere = record { reached = false; key = 0; states = 0 }
-
 -- in column 0 the source alone is reached
-abbrev pub start : Front
-start = record { high = record { reached = true; key = 0; states = 0 }; low = nowhere }
+abbrev pub start : ℕ → Front
+start n = record { high = 0; low = size n }
 
--- through a link of stage i that a number stops, taken in a state
-unfoldable pub through : Place → ℕ → ℕ → ℕ → Place
-through p stop state i =
-    cond (p .reached && eqb stop 0)
-    (record { reached = true; key = p .key * 2 + state; states = p .states + state * 2 ^ i })
-    nowhere
+-- where a number stops a link, no walk is left
+abbrev pub lostBy : ℕ → ℕ → ℕ
+lostBy n stop = cond (eqb stop 0) 0 (size n)
+
+-- a walk with one link more, taken in a state, that a number stops
+unfoldable pub through : ℕ → ℕ → ℕ → ℕ → ℕ
+through n p stop state = p * 2 + state + lostBy n stop
 
 -- of two ways to one switch, the one that comes first
-unfoldable pub lesser : Place → Place → Place
-lesser p q = cond (p .reached) (cond (q .reached) (cond (leb (p .key) (q .key)) p q) p) q
+unfoldable pub lesser : ℕ → ℕ → ℕ
+lesser p q = cond (leb p q) p q
 
 -- the high switch of a column: from the source on, straight where its bit is right, and plus where it is not
 unfoldable pub high : ℕ → ℕ → ℕ → ℕ → ℕ
@@ -38,22 +34,22 @@ abbrev pub low : ℕ → ℕ → ℕ → ℕ → ℕ
 low n s d i = lands n i 2 (high n s d i)
 
 -- one stage on: the switch whose bit is right goes straight, the other one forks, plus up and minus down
-unfoldable pub advanced : Bool → ℕ → Stops → ℕ → Front → Front
-advanced highRight t x i f =
-    cond highRight
-    (record {
-      high = lesser (through (f .high) (x .straight) 0 i) (through (f .low) (x .plus) (1 - t) i);
-      low = through (f .low) (x .minus) t i;
-    })
-    (record {
-      high = through (f .high) (x .plus) (1 - t) i;
-      low = lesser (through (f .low) (x .straight) 0 i) (through (f .high) (x .minus) t i);
-    })
+unfoldable pub advanced : ℕ → Bool → ℕ → Stops → Front → Front
+advanced n highRight t x f =
+    let straight : ℕ = through n (cond highRight (f .high) (f .low)) (x .straight) 0 in
+    let up : ℕ = through n (cond highRight (f .low) (f .high)) (x .plus) (1 - t) in
+    let down : ℕ = through n (cond highRight (f .low) (f .high)) (x .minus) t in
+    let met : ℕ = lesser straight (cond highRight up down) in
+    record { high = cond highRight met up; low = cond highRight down met }
 
--- the states of i stages fit i bits
-pub record Small (i : ℕ) (p : Place) : Type 0 where
-  pub key : p .key < 2 ^ i
-  pub states : p .states < 2 ^ i
+-- a number's low bits in the other order
+unfoldable pub mirrored : ℕ → ℕ → ℕ
+mirrored zero k = 0
+mirrored (suc i) k = mirrored i k * 2 + bit i k
+
+-- what i stages leave of a number, walk or none, so that it fits 32 bits after 12
+abbrev pub Small : ℕ → ℕ → Type 0
+Small i p = p + 8192 ≤ 2 ^ (i + 14)
 
 -- the numbers that a rule gives for the straight link of one switch of stage i and the nonstraight links of another
 abbrev pub linksOf : (ℕ → ℕ → ℕ → ℕ) → ℕ → ℕ → ℕ → Stops

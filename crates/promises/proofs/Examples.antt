@@ -15,7 +15,7 @@ use Rattle.tags.specs.declared.Tag.{Tag}
 use Rattle.scheme.specs.Tags.{steered, stepsOf, statesOf, normalTag}
 use Rattle.tags.specs.Entries.{tagToStepsChecks, normalFormChecks}
 use Rattle.tags.proofs.Promises.{to-steps-accepts, form-accepts}
-use Rattle.paths.specs.Frontier.{high, through, lesser, advanced}
+use Rattle.paths.specs.Frontier.{high, through, lesser, advanced, mirrored}
 use Rattle.book.specs.declared.Book.{Book}
 use Rattle.book.specs.Standing.{standing, stopper, stopsOf}
 use Rattle.standing.specs.Rising.{stands, insert, without, misfiled, littered}
@@ -139,7 +139,7 @@ all-rows [] e = tt
 all-rows (x ∷ es) e = let w = both-hold (test x) (every es) .0 e in (row x (w .0), all-rows es (w .1))
 
 tested : every examples ≡ true
-unfolding every test routing stopping accepting passing sameFound sameList run stopper stands insert without misfiled littered ones steered statesOf walked high through lesser advanced answerFrom
+unfolding every test routing stopping accepting passing sameFound sameList run stopper stands insert without misfiled littered ones steered statesOf walked high through lesser advanced mirrored answerFrom
 tested = refl
 
 -- the thirteen examples

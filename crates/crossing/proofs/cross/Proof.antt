@@ -1,7 +1,6 @@
 -- The frontier holds the first clear walks to its two switches, for whatever rule the marks are of, and one of the two is
 -- reached.
-use mathlib.Core.Path.{_≡_, refl, sym, ap, subst, _∙_}
-use mathlib.Core.Bool.{true, _||_}
+use mathlib.Core.Path.{_≡_, sym, ap, subst, _∙_}
 use Prim.Native.Nat.{ℕ, _+_, _-_, _*_, _^_, _≤_, _<_}
 use native.Mathlib.Numerals.{add-one}
 use native.Mathlib.Omega.{arith}
@@ -9,11 +8,10 @@ use borrow.Author.Tests.{not-true, not-false}
 use borrow.Author.Needs.{needs}
 use lib.Dec.{eqb}
 use Rattle.fabric.specs.Labels.{size}
-use Rattle.paths.specs.declared.Place.{Place}
-use Rattle.paths.proofs.Places.{lesser-small}
+use Rattle.paths.proofs.Places.{few-labels, start-reached, advanced-small, small-fits}
 use Rattle.paths.specs.Clear.{Rule}
 use Rattle.paths.proofs.Frontier.{Holds, start-holds}
-use Rattle.paths.specs.Frontier.{Small, start}
+use Rattle.paths.specs.Frontier.{Small, lesser}
 use Rattle.crossing.specs.Marked.{Marked}
 use Rattle.crossing.proofs.Apart.{right-where}
 use Rattle.crossing.proofs.Routing.{front-on, none-ahead, found-ahead}
@@ -22,7 +20,7 @@ use Rattle.crossing.proofs.cross.Tie as tie
 
 abbrev Inv-loop : tie.InvT-loop
 Inv-loop n source destination marks apart front₀ i₀ front i =
-    (i ≤ n) × Small i (front .high) × Small i (front .low) × ((front .high .reached || front .low .reached) ≡ true)
+    (i ≤ n) × Small i (front .high) × Small i (front .low) × (lesser (front .high) (front .low) < size n)
     × ((stops : Rule) → Marked n stops source destination marks → Holds n stops source destination i front)
 
 abbrev μ-loop : tie.MeasureT-loop
@@ -38,12 +36,11 @@ loop-holds : tie.Need-loop-holds Inv-loop μ-loop
 loop-holds c =
     let a = c .before .before .args in
     let e = c .at-source .ensures in
-    let small : Small 0 (start .high) = record { key = omega arith; states = omega arith } in
-    let low : Small 0 (start .low) = record { key = omega arith; states = omega arith } in (
+    let few = few-labels (a .n) (search needs) in (
       search needs,
-      rw e small,
-      rw e low,
-      rw e refl,
+      rw e (omega arith),
+      rw e (omega arith),
+      rw e (start-reached (a .n)),
       λ stops marked. subst (Holds (a .n) stops (a .source) (a .destination) 0) (sym e) (start-holds (a .n) stops (a .source) (a .destination) (search needs)),
     )
 
@@ -63,7 +60,10 @@ bit-of-requires-2 : tie.Need-bit-of-requires-2 Inv-loop μ-loop
 bit-of-requires-2 c κs = search needs
 
 advance-requires : tie.Need-advance-requires Inv-loop μ-loop
-advance-requires c κs = search needs
+advance-requires c κs =
+    let v = c .before .before .before .before .loop in
+    let h : v .i < 12 = search needs in
+    (search needs, search needs, small-fits (v .i) (v .front .high) h (v .inv .1), small-fits (v .i) (v .front .low) h (v .inv .2))
 
 reached-requires : tie.Need-reached-requires Inv-loop μ-loop
 reached-requires c κs = search needs
@@ -77,8 +77,8 @@ returns c = λ stops marked.
     right-where (a .n) (a .source) (a .destination) _ (search needs) (search needs) (c .before .before .before .before .before .before .before .before .before .wrapping-sub-u16 .ensures) (v .i) (omega arith)
     ∙ ap (λ (b : ℕ). eqb b 0) (sym (c .before .before .before .bit-of2 .ensures .0)) in
     let held = w .4 stops marked in
-    let next = front-on (a .n) stops (a .source) (a .destination) (search needs) (a .t4) marked (v .i) _ _ (omega arith) right (c .before .before .before .before .bit-of .ensures .0) (v .front) _ (c .before .before .advance .ensures .0) held in
-    none-ahead (a .n) stops (a .source) (a .destination) (search needs) (v .i) (omega arith) (v .front) _ held (w .3) next (sym (c .before .reached .ensures) ∙ not-true _ (c .if1 .taken))
+    let next = front-on (a .n) stops (a .source) (a .destination) (search needs) (a .t4) marked (v .i) _ _ (omega arith) right (c .before .before .before .before .bit-of .ensures .0) (v .front) _ (c .before .before .advance .ensures) held in
+    none-ahead (a .n) stops (a .source) (a .destination) (search needs) (v .i) (omega arith) (v .front) _ held (w .3) next (c .before .reached .ensures .1 (not-true _ (c .if1 .taken)))
 
 add-i : tie.Need-add-i Inv-loop μ-loop
 add-i c = search needs
@@ -94,31 +94,28 @@ loop-again c =
     let right =
     right-where (a .n) (a .source) (a .destination) _ (search needs) (search needs) (c .before .before .before .before .before .before .before .before .before .wrapping-sub-u16 .ensures) (v .i) (omega arith)
     ∙ ap (λ (b : ℕ). eqb b 0) (sym (c .before .before .before .bit-of2 .ensures .0)) in
-    let more = add-one (v .i) in (
+    let more = add-one (v .i) in
+    let e = c .before .before .advance .ensures in
+    let small = advanced-small (a .n) (v .i) (search needs) _ (c .before .before .before .before .bit-of .result) _ (v .front) (search needs) (w .1) (w .2) in (
       omega arith,
-      rw more (c .before .before .advance .ensures .1),
-      rw more (c .before .before .advance .ensures .2),
-      sym (c .before .reached .ensures) ∙ not-false _ (c .if1 .left),
-      λ stops marked. front-on (a .n) stops (a .source) (a .destination) (search needs) (a .t4) marked (v .i) _ _ (omega arith) right (c .before .before .before .before .bit-of .ensures .0) (v .front) _ (c .before .before .advance .ensures .0) (w .4 stops marked),
+      rw (more, e) (small .0),
+      rw (more, e) (small .1),
+      c .before .reached .ensures .0 (not-false _ (c .if1 .left)),
+      λ stops marked. front-on (a .n) stops (a .source) (a .destination) (search needs) (a .t4) marked (v .i) _ _ (omega arith) right (c .before .before .before .before .bit-of .ensures .0) (v .front) _ (c .before .before .advance .ensures) (w .4 stops marked),
     )
 
-first-of-requires : tie.Need-first-of-requires Inv-loop μ-loop
-first-of-requires c κs = search needs
+first-states-requires : tie.Need-first-states-requires Inv-loop μ-loop
+first-states-requires c κs = search needs
 
 joined-requires : tie.Need-joined-requires Inv-loop μ-loop
-joined-requires c κs =
-    let a = c .before .before .before .before .before .before .before .args in
-    let v = c .before .before .before .before .loop in
-    let e : v .i ≡ a .n = omega arith in
-    let small = lesser-small (v .front .high) (v .front .low) (v .i) (c .first-of .ensures) (v .inv .1) (v .inv .2) .states in
-    (search needs, search needs, subst (λ (k : ℕ). c .first-of .result .states < 2 ^ k) e small)
+joined-requires c κs = search needs
 
 returns-2 : tie.Need-returns-2 Inv-loop μ-loop
 returns-2 c = λ stops marked.
-    let a = c .before .before .before .before .before .before .before .before .args in
-    let v = c .before .before .before .before .before .loop in
+    let a = c .before .before .before .before .before .before .args in
+    let v = c .before .before .before .loop in
     found-ahead (a .n) stops (a .source) (a .destination) (search needs) (search needs) (v .i) _ (omega arith) (v .front) (v .inv .4 stops marked) (v .inv .3)
-    (c .joined .ensures ∙ ap (λ (p : Place). a .destination + size (a .n) * p .states) (c .before .first-of .ensures))
+    (c .joined .ensures ∙ ap (λ (x : ℕ). a .destination + size (a .n) * x) (c .before .first-states .ensures .0))
 
 pub cross-spec : {M : Type 1} → statement M
 cross-spec =
@@ -140,6 +137,6 @@ cross-spec =
     add-i
     loop-less
     loop-again
-    first-of-requires
+    first-states-requires
     joined-requires
     returns-2)

@@ -1,16 +1,19 @@
 -- The low switch is the one that nothing reaches.
 use mathlib.Core.Path.{ap}
-use mathlib.Core.Bool.{true}
+use Prim.Native.Nat.{ℕ}
 use borrow.Author.Needs.{needs}
-use Rattle.paths.specs.declared.Place.{Place}
+use Rattle.paths.specs.declared.Front.{Front}
 use Rattle.paths.proofs.at_source.Statement.{statement}
 use Rattle.paths.proofs.at_source.Tie as tie
 
-unreached-requires : tie.Need-unreached-requires
-unreached-requires c κs = search needs
+size-requires : tie.Need-size-requires
+size-requires c κs = search needs
+
+cast-t3 : tie.Need-cast-t3
+cast-t3 c = search needs
 
 returns : tie.Need-returns
-returns c = ap (λ (p : Place). record { high = record { reached = true; key = 0; states = 0 }; low = p }) (c .unreached .ensures)
+returns c = ap {B = Front} (λ (x : ℕ). record { high = 0; low = x }) (c .size .ensures)
 
 pub at-source-spec : {M : Type 1} → statement M
-at-source-spec = tie.close (tie.spec unreached-requires returns)
+at-source-spec = tie.close (tie.spec size-requires cast-t3 returns)
