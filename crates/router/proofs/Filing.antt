@@ -1,6 +1,6 @@
 -- One pass over the notices from the last to the first tells whether one of them is misfiled: those from k on are not, above
 -- each number below that of the first of them.
-use mathlib.Core.Path.{_≡_, refl, subst}
+use mathlib.Core.Path.{_≡_, refl, sym, subst, _∙_}
 use mathlib.Core.Bool.{Bool, true, false, _||_}
 use mathlib.Core.List.{List, [], _∷_, _++_}
 use Prim.Native.Nat.{ℕ, _≤_}
@@ -24,7 +24,7 @@ first-true : (a b : Bool) → a ≡ true → (a || b) ≡ true
 first-true a b e = rw e
 
 -- a target that filing takes lies in the fabric
-pub fit-column : (n : ℕ) (t : Target) → unfit n t ≡ false → columnOf t ≤ n
+fit-column : (n : ℕ) (t : Target) → unfit n t ≡ false → columnOf t ≤ n
 fit-column n t e = inside t (neither (outsideFabric n t) (badField n t) (neither (outsideFabric n t || badField n t) (tooWide t) e .0) .0)
   where
     inside : (u : Target) → outsideFabric n u ≡ false → columnOf u ≤ n
@@ -32,14 +32,28 @@ fit-column n t e = inside t (neither (outsideFabric n t) (badField n t) (neither
     inside (Switch column switch) f = ltb-false n column (neither _ _ f .0)
     inside (Pattern stage value mask set) f = let h = leb-false n stage f in omega arith
 
+pub column-within : (n next : ℕ) (x : Notice) {made : Bool} {column : ℕ} → made ≡ (leb next (x .number) || unfit n (x .target)) → made ≡ false
+    → column ≡ columnOf (x .target) → column ≤ n
+column-within n next x e f c =
+    subst (λ (m : ℕ). m ≤ n) (sym c) (fit-column n (x .target) (neither (leb next (x .number)) (unfit n (x .target)) (sym e ∙ f) .1))
+
 module _ (n : ℕ) where
-  pub unfit-there : (j : ℕ) (x : Notice) (l : List Notice) → unfit n (x .target) ≡ true → misfiled n j (x ∷ l) ≡ true
+  unfit-there : (j : ℕ) (x : Notice) (l : List Notice) → unfit n (x .target) ≡ true → misfiled n j (x ∷ l) ≡ true
   unfolding misfiled
   unfit-there j x l e = first-true (leb (x .number) j || unfit n (x .target)) (misfiled n (x .number) l) (last-true (leb (x .number) j) (unfit n (x .target)) e)
 
-  pub misfiled-after : (j : ℕ) (x : Notice) (l : List Notice) → misfiled n (x .number) l ≡ true → misfiled n j (x ∷ l) ≡ true
+  misfiled-after : (j : ℕ) (x : Notice) (l : List Notice) → misfiled n (x .number) l ≡ true → misfiled n j (x ∷ l) ≡ true
   unfolding misfiled
   misfiled-after j x l e = last-true (leb (x .number) j || unfit n (x .target)) (misfiled n (x .number) l) e
+
+  -- a notice that filing refuses, or whose number is not below all that follow
+  pub misplaced-there : (next j : ℕ) (x : Notice) (l : List Notice) → misfiled n (x .number) l ≡ leb next (x .number)
+      → (leb next (x .number) || unfit n (x .target)) ≡ true → misfiled n j (x ∷ l) ≡ true
+  misplaced-there next j x l known e = go (leb next (x .number)) refl e
+    where
+      go : (b : Bool) → leb next (x .number) ≡ b → (b || unfit n (x .target)) ≡ true → misfiled n j (x ∷ l) ≡ true
+      go true late e = misfiled-after j x l (known ∙ late)
+      go false early e = unfit-there j x l e
 
   -- a list whose end is misfiled above any number
   joined : (a l : List Notice) (j : ℕ) → ((m : ℕ) → misfiled n m l ≡ true) → misfiled n j (a ++ l) ≡ true

@@ -1,5 +1,4 @@
 pub mod Marking
 pub mod Promises
 pub mod Filing
-pub mod Besides
 pub mod Entries

@@ -9,15 +9,18 @@ use lib.ListN.{getD}
 use Rattle.fabric.specs.Labels.{bit}
 use Rattle.fabric.specs.Links.{lands}
 use Rattle.paths.specs.declared.Stops.{Stops}
-use Rattle.paths.specs.Frontier.{high}
+use Rattle.paths.specs.Frontier.{high, low}
 use Rattle.notices.specs.declared.Notice.{Notice}
 use Rattle.notices.specs.declared.Target.{Target}
 use Rattle.notices.specs.declared.Target.the-variants.{Links, Switch, Pattern}
 use Rattle.notices.specs.Targets.{names}
 
--- the high switch of each column
+-- the high switch of each column, and the low one
 abbrev pub Highs : ℕ → ℕ → ℕ → List ℕ → Type 0
 Highs n s d hs = (i : ℕ) → i ≤ n → getD hs i 0 ≡ high n s d i
+
+abbrev pub Lows : ℕ → ℕ → ℕ → List ℕ → Type 0
+Lows n s d ls = (i : ℕ) → i ≤ n → getD ls i 0 ≡ low n s d i
 
 -- one notice more, of a lower number
 abbrev pub mark : ℕ → Notice → ℕ → ℕ → ℕ → ℕ → ℕ

@@ -5,36 +5,11 @@ use notices::Target;
 use paths::Stops;
 ghost use mathlib.Core.Path.{_≡_};
 ghost use mathlib.Core.Bool.{false, cond, _||_};
-ghost use Prim.Native.Nat.{ℕ, _+_, _%_, _^_, _≤_, _<_};
-ghost use lib.Dec.{eqb};
+ghost use Prim.Native.Nat.{ℕ, _+_, _≤_, _<_};
 ghost use Rattle.fabric.specs.Labels.{size};
-ghost use Rattle.fabric.specs.Links.{lands};
 ghost use Rattle.notices.specs.Targets.{names};
-ghost use Rattle.router.specs.Marks.{Highs, columnOf, tellsOf, mark, marksOf, marksAt};
+ghost use Rattle.router.specs.Marks.{columnOf, tellsOf, mark, marksOf, marksAt};
 ghost use Rattle.crossing.specs.Marked.{unmarked};
-
-// The high switches of the columns.
-pub fn highs(n: u8, source: u16, destination: u16) -> [u16; 13]
-    requires { ⌜ (n ≤ 12) × (source < size n) ⌝ }
-    ensures { λ r. ⌜ Highs n source destination r ⌝ }
-{
-    let apart = std::num::wrapping_sub_u16(destination, source);
-    let mut out = [source; 13];
-    let mut i = 0;
-    while i < 13 {
-        out[i as usize] = above(n, i, source, apart);
-        i += 1;
-    }
-    out
-}
-
-// The switch above the source by the low i bits of a distance.
-fn above(n: u8, i: u8, source: u16, apart: u16) -> u16
-    requires { ⌜ (n ≤ 12) × (i ≤ 12) ⌝ }
-    ensures { λ r. ⌜ r ≡ (source + apart % 2 ^ i) % 2 ^ n ⌝ }
-{
-    std::num::wrapping_add_u16(source, apart % fabric::size(i)) % fabric::size(n)
-}
 
 pub fn nothing() -> Stops
     ensures { λ r. ⌜ r ≡ unmarked ⌝ }
@@ -67,10 +42,9 @@ pub fn column_of(x: Notice) -> u8
     }
 }
 
-// Whether a notice may speak of the high switch of its column or of the low one.
-pub fn near(n: u8, x: Notice, column: u8, high: u16) -> bool
-    requires { ⌜ (n ≤ 12) × (column ≤ n) × (high < size n) ⌝ }
-    ensures { λ r. ⌜ (r ≡ false → (tellsOf (x .target) high ≡ false) × (tellsOf (x .target) (lands n column 2 high) ≡ false)) ⌝ }
+// Whether a notice speaks of the high switch of that column or of the low one.
+pub fn near(x: Notice, high: u16, low: u16) -> bool
+    ensures { λ r. ⌜ r ≡ (tellsOf (x .target) high || tellsOf (x .target) low) ⌝ }
 {
     let t = x.target;
     match t {
@@ -78,33 +52,15 @@ pub fn near(n: u8, x: Notice, column: u8, high: u16) -> bool
             stage: _,
             switch,
             set: _,
-        } => beside(n, column, high, switch),
-        Target::Switch { column: _, switch } => beside(n, column, high, switch),
+        } => table::either(high == switch, low == switch),
+        Target::Switch { column: _, switch } => table::either(high == switch, low == switch),
         Target::Pattern {
             stage: _,
             value,
             mask,
             set: _,
-        } => {
-            let low = fabric::landing(n, column, 2, high);
-            any(high & mask == value, low & mask == value)
-        }
+        } => table::either(high & mask == value, low & mask == value),
     }
-}
-
-// Whether a switch is the high one of a column or the low one: no bit of the distance is set but that of 2^i, if any.
-fn beside(n: u8, column: u8, high: u16, switch: u16) -> bool
-    requires { ⌜ (n ≤ 12) × (column ≤ n) × (high < size n) ⌝ }
-    ensures { λ r. ⌜ (r ≡ false → (eqb high switch ≡ false) × (eqb (lands n column 2 high) switch ≡ false)) ⌝ }
-{
-    let apart = std::num::wrapping_sub_u16(high, switch) % fabric::size(n);
-    apart & (65535 - fabric::size(column)) == 0
-}
-
-fn any(a: bool, b: bool) -> bool
-    ensures { λ r. ⌜ r ≡ (a || b) ⌝ }
-{
-    if a { true } else { b }
 }
 
 // The stage in which a notice names links; 12 where it names none.

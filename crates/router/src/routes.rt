@@ -1,6 +1,7 @@
 // Document 01, 'route': the first clear path, or the stage that no clear walk can cross.
+use crate::columns::highs;
+use crate::columns::lows;
 use crate::marks::column_of;
-use crate::marks::highs;
 use crate::marks::near;
 use crate::marks::nothing;
 use crate::marks::stage_of;
@@ -8,12 +9,14 @@ use crate::marks::with_notice;
 use book::Book;
 use crossing::Found;
 use crossing::cross;
-use paths::Stops;
+use notices::Notice;
 use table::Refusal;
 ghost use mathlib.Core.Path.{_≡_};
-ghost use mathlib.Core.Bool.{true, false, cond};
+ghost use mathlib.Core.Bool.{true, false, cond, _||_};
 ghost use Prim.Native.Nat.{_≤_, _<_};
+ghost use lib.Dec.{leb};
 ghost use Rattle.fabric.specs.Labels.{size};
+ghost use Rattle.notices.specs.Targets.{unfit};
 ghost use Rattle.book.specs.Standing.{standing, unsound, stopsOf};
 ghost use Rattle.standing.specs.Rising.{misfiled};
 ghost use Rattle.crossing.specs.Routed.{Routed};
@@ -65,6 +68,7 @@ fn ahead(book: Book, source: u16, destination: u16) -> Found
 {
     let n = book.n;
     let highs = highs(n, source, destination);
+    let lows = lows(n, highs);
     let none = nothing();
     let mut marks = [none; 13];
     let mut next = 65536u32;
@@ -72,20 +76,15 @@ fn ahead(book: Book, source: u16, destination: u16) -> Found
     while 0 < k {
         k -= 1;
         let x = book.notices[k];
-        if next <= x.number as u32 {
-            return Found::Refused(Refusal::Book);
-        }
-        if notices::unfit(n, x) {
+        if misplaced(n, x, next) {
             return Found::Refused(Refusal::Book);
         }
         next = x.number as u32;
         let column = column_of(x);
-        let high = highs[column as usize];
-        if near(n, x, column, high) {
+        if near(x, highs[column as usize], lows[column as usize]) {
             let i = stage_of(x);
             let old = marks[i as usize];
-            let from = highs[i as usize];
-            let new = with_notice(n, destination, from, old, x, i);
+            let new = with_notice(n, destination, highs[i as usize], old, x, i);
             marks[i as usize] = new;
         }
     }
@@ -93,4 +92,15 @@ fn ahead(book: Book, source: u16, destination: u16) -> Found
         return Found::Refused(Refusal::Book);
     }
     cross(n, source, destination, marks)
+}
+
+// Whether a notice is one that filing refuses, or does not come before the next one.
+fn misplaced(n: u8, x: Notice, next: u32) -> bool
+    requires { ⌜ n ≤ 12 ⌝ }
+    ensures { λ r. ⌜ (r ≡ (leb next (x .number) || unfit n (x .target))) × (x .number < 65536) ⌝ }
+{
+    if next <= x.number as u32 {
+        return true;
+    }
+    notices::unfit(n, x)
 }

@@ -5,8 +5,8 @@ use native.Mathlib.Omega.{arith}
 use lib.Pow.{pow-pos}
 use Rattle.fabric.proofs.Bits.{low-of-low}
 use borrow.Author.Needs.{needs}
-use Rattle.router.proofs.marks.above.Statement.{statement}
-use Rattle.router.proofs.marks.above.Tie as tie
+use Rattle.router.proofs.columns.above.Statement.{statement}
+use Rattle.router.proofs.columns.above.Tie as tie
 
 size-requires : tie.Need-size-requires
 size-requires c κs = search needs

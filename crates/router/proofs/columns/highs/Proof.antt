@@ -6,8 +6,8 @@ use lib.ListN.{length, getD, length-set}
 use Rattle.crossing.proofs.Apart.{high-above}
 use Rattle.router.proofs.Marking.{filled-more}
 use borrow.Author.Needs.{needs}
-use Rattle.router.proofs.marks.highs.Statement.{statement}
-use Rattle.router.proofs.marks.highs.Tie as tie
+use Rattle.router.proofs.columns.highs.Statement.{statement}
+use Rattle.router.proofs.columns.highs.Tie as tie
 
 abbrev Inv-loop : tie.InvT-loop
 Inv-loop n source destination apart out₀ i₀ out i = (i ≤ 13) × (length out ≡ 13) × ((k : ℕ) → k < i → getD out k 0 ≡ (source + apart % 2 ^ k) % 2 ^ n)
