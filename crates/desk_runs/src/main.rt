@@ -8,7 +8,7 @@ ghost use Prim.Native.Nat.{_+_, _≤_, _<_};
 ghost use lib.ListN.{length};
 
 fn main() {
-    let mut memory = [0u8; 262144];
+    let mut memory = [0u8; 98304];
     let bytes = io::read_full(STDIN_FILENO, &mut memory);
     run_all(&memory[..bytes]);
     let empty = [b'F', b'S', b'H', 0, 1, 3, 0, 0];
