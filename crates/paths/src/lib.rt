@@ -43,7 +43,7 @@ fn lost_by(n: u8, stop: u16) -> u32
     fabric::size(n) as u32
 }
 
-// A walk with one link more, taken in a state, that a number stops.
+// A walk with one link more, taken in a state, that a number stops. After 12 links its number is still below 2^26.
 fn by_link(n: u8, walk: u32, stop: u16, state: u8) -> u32
     requires { ⌜ (n ≤ 12) × (state < 2) × (walk < 33554432) ⌝ }
     ensures { λ r. ⌜ r ≡ through n walk stop state ⌝ }

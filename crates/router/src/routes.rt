@@ -94,7 +94,7 @@ fn ahead(book: Book, source: u16, destination: u16) -> Found
     cross(n, source, destination, marks)
 }
 
-// Whether a notice is one that filing refuses, or does not come before the next one.
+// Whether a notice is one that filing refuses, or its number is not below `next`, that of the notice after it.
 fn misplaced(n: u8, x: Notice, next: u32) -> bool
     requires { ⌜ n ≤ 12 ⌝ }
     ensures { λ r. ⌜ (r ≡ (leb next (x .number) || unfit n (x .target))) × (x .number < 65536) ⌝ }
