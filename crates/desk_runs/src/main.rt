@@ -3,7 +3,6 @@
 use libc::STDIN_FILENO;
 use printed::Ran;
 use table::Refusal;
-ghost use mathlib.Core.Path.{_≡_};
 ghost use Prim.Native.Nat.{_+_, _≤_, _<_};
 ghost use lib.ListN.{length};
 

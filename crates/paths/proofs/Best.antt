@@ -1,6 +1,6 @@
 -- The first of some walks, and how it is found again after one link more, and where two ways meet.
 use mathlib.Core.Path.{_≡_, refl, sym, ap, ap₂, subst, _∙_}
-use mathlib.Core.Bool.{Bool, cond}
+use mathlib.Core.Bool.{cond}
 use mathlib.Core.List.{List, [], _∷_, _++_}
 use mathlib.Core.Logic.{_⊎_, inl, inr, ⊎-elim}
 use Prim.Native.Nat.{ℕ, suc, _+_, _*_, _^_, _≤_, _<_}
@@ -8,6 +8,7 @@ use native.Mathlib.Nat.{pow-suc}
 use native.Mathlib.Decide.{ℕ-discrete, decLe, decLt}
 use native.Mathlib.Omega.{arith}
 use borrow.Author.Tests.{eq-eqb, ne-eqb}
+use lib.Dec.{eqb}
 use lib.ListN.{length}
 use lib.Pow.{pow-mono}
 use Rattle.fabric.specs.Labels.{size, bit}
@@ -90,7 +91,7 @@ module _ (n s : ℕ) where
       none m cs v (yes l) = let r = room l in absurd (omega arith)
       none m cs v (no l) = b .unreached (omega arith) (v .before) (v .among)
 
-      go : Dec (stops i j c ≡ 0) → Best n s (Via stops i j c P) (p * 2 + state + cond (lib.Dec.eqb (stops i j c) 0) 0 (size n))
+      go : Dec (stops i j c ≡ 0) → Best n s (Via stops i j c P) (p * 2 + state + cond (eqb (stops i j c) 0) 0 (size n))
       go (yes z) =
           rw (eq-eqb _ _ z)
           (record { reached = λ m. leads z (omega arith); unreached = λ m cs v. none m cs v (decLt p (size n)) })

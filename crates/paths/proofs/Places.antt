@@ -47,7 +47,7 @@ pub start-reached : (n : ℕ) → lesser 0 (size n) < size n
 start-reached n = subst (λ (x : ℕ). x < size n) (lesser-earlier 0 (size n) zero-le) (pow-pos n)
 
 -- what holds of both holds of the one that is chosen
-pub chosen-has : (P : ℕ → Type 0) (b : Bool) {p q : ℕ} → P p → P q → P (cond b p q)
+chosen-has : (P : ℕ → Type 0) (b : Bool) {p q : ℕ} → P p → P q → P (cond b p q)
 chosen-has P true x y = x
 chosen-has P false x y = y
 
