@@ -21,6 +21,11 @@ a below b = ltb a b
 abbrev pub _notBelow_ : ℕ → ℕ → Bool
 a notBelow b = leb b a
 
+-- the numbers of an entry's checks, in the order in which they are judged: what 01's line for the entry lists
+abbrev pub numbers : List Check → List ℕ
+numbers [] = []
+numbers (c ∷ cs) = c .number ∷ numbers cs
+
 -- what the first check whose line holds makes of its number; where no line holds, what an accepted call gives
 abbrev pub checked {ℓ} : {A : Type ℓ} → List Check → (ℕ → A) → A → A
 checked [] refuse accept = accept

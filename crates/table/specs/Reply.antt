@@ -1,7 +1,7 @@
 -- What an entry hands back, in document 01's terms: the values of an accepted call, or a number of the table with the
 -- values that belong to it. Every answer enum has a definition that gives its cases this form.
 use mathlib.Core.List.{List, []}
-use Prim.Native.Nat.{ℕ}
+use Prim.Native.Nat.{ℕ, _≤_}
 
 pub data Reply : Type 0 where
   accepted : List ℕ → Reply
@@ -10,3 +10,8 @@ pub data Reply : Type 0 where
 -- a number alone
 abbrev pub refused : ℕ → Reply
 refused k = Reply.refusedWith k []
+
+-- a refusal comes with a number of the table, and the table has no 0
+abbrev pub Numbered : Reply → Type 0
+Numbered (Reply.accepted values) = Unit
+Numbered (Reply.refusedWith k values) = 1 ≤ k
