@@ -1,8 +1,9 @@
--- Some controller keeps its promises, so that what is proved of every such controller is proved of one at least. It is computed: the
--- checks decide, and past them the book, the lowest notice or the frontier.
+-- Some controller meets every demand by which Worthless.antt excludes one, so that what is proved of every such controller is proved of
+-- one at least. It is computed: the checks decide, and past them the book, the lowest notice or the frontier.
 use mathlib.Core.Path.{_≡_, refl, sym, ap, subst, _∙_}
 use mathlib.Core.Bool.{Bool, true, false, cond}
 use mathlib.Core.List.{List, [], _∷_}
+use mathlib.Core.Logic.{_⊎_, inl, inr, ⊎-elim, _↔_}
 use Prim.Native.Nat.{ℕ}
 use borrow.Author.Tests.{leb-false}
 use lib.Dec.{eqb}
@@ -13,16 +14,19 @@ use Rattle.table.specs.Checks.{Check, checked, Given, Given.here, Given.later, 
 use Rattle.table.proofs.Numbers.{byNumber}
 use Rattle.table.proofs.Checks.{given-refuses, passed-accepts, passed-nth, neither}
 use Rattle.fabric.specs.Labels.{size}
+use Rattle.notices.specs.declared.Notice.{Notice}
 use Rattle.book.specs.declared.Book.{Book}
 use Rattle.book.specs.declared.Answer.{Answer}
 use Rattle.book.specs.declared.Link.{Link}
 use Rattle.book.specs.Standing.{standing, stopper, stopsOf}
-use Rattle.book.specs.Entries.{answerSays, linkSays, fileChecks, withdrawChecks, linkChecks}
-use Rattle.book.specs.Runs.{Change, after}
+use Rattle.book.specs.Entries.{answerSays, linkSays, opened, fileChecks, withdrawChecks, linkChecks, Tests}
+use Rattle.book.specs.Runs.{Change, changeChecks, answer, after, Accepted, run, NotWithdrawn, StandsSince}
+use Rattle.book.proofs.Once.{answer-tells}
+use Rattle.book.proofs.Since.{link-exactly}
 use Rattle.crossing.specs.declared.Found.{Found}
 use Rattle.crossing.specs.Routed.{routeSays, Routed}
 use Rattle.router.specs.Entries.{routeChecks, Routes}
-use Rattle.promises.specs.Controllers.{Controller, Keeps}
+use Rattle.promises.specs.Controllers.{Controller, FilesAsPromised, RoutesAsPromised, Accepts, ownRun, NeverWithdrawn, Holds, Named, StopsWhatIsNamed}
 use Rattle.promises.proofs.Found.{routeOf, route-of}
 
 -- every number of the checks is that of a refusal
@@ -52,11 +56,12 @@ answered cs = checked cs (λ k. Answer.Refused (byNumber k)) Answer.Done
 abbrev told : Book → ℕ → ℕ → ℕ → Link
 told b i j c = cond (eqb (stopper (b .n) (standing b) i j c) 0) Link.Clear Link.Stopped
 
-abbrev ours : Controller
+abbrev ours : Controller Book
 ours =
     record {
-      file = λ b x. record { book = after (Change.file x) b; answer = answered (fileChecks b x) };
-      withdraw = λ b k. record { book = after (Change.withdraw k) b; answer = answered (withdrawChecks b k) };
+      opens = opened;
+      answers = λ a b. answered (changeChecks a b);
+      leaves = after;
       link = λ b i j c. checked (linkChecks b i j c) (λ k. Link.Refused (byNumber k)) (told b i j c);
       route = λ b s d. checked (routeChecks b s d) (λ k. Found.Refused (byNumber k)) (routeOf (b .n) (stopsOf b) s d);
     }
@@ -81,20 +86,70 @@ routes-so b s d =
           (route-of (b .n) (stopsOf b) s d (leb-false (size (b .n)) s (o .0)) (leb-false (size (b .n)) d (o .1)));
     }
 
-pub some-controller-keeps : (c : Controller) × Keeps c
-some-controller-keeps = (
-  ours,
-  record {
-    files = λ b x.
-        record { says = says-checked answerSays Answer.Refused (λ r. refl) Answer.Done (fileChecks b x) (refl, (refl, (refl, (refl, (refl, (refl, (refl, tt))))))); leaves = refl };
-    withdraws = λ b k.
-        record { says = says-checked answerSays Answer.Refused (λ r. refl) Answer.Done (withdrawChecks b k) (refl, (refl, (refl, tt))); leaves = refl };
-    tests = λ b i j c.
-        record {
-          says =
-              says-checked linkSays Link.Refused (λ r. refl) (told b i j c) (linkChecks b i j c) (refl, (refl, (refl, tt)))
-              ∙ ap (λ (r : Reply). checked (linkChecks b i j c) refused r) (told-says b i j c);
-        };
-    routes = routes-so;
-  },
+change-says : (a : Change) (b : Book) → answerSays (answered (changeChecks a b)) ≡ answer a b
+change-says (Change.file x) b =
+    says-checked answerSays Answer.Refused (λ r. refl) Answer.Done (fileChecks b x) (refl, (refl, (refl, (refl, (refl, (refl, (refl, tt)))))))
+change-says (Change.withdraw k) b = says-checked answerSays Answer.Refused (λ r. refl) Answer.Done (withdrawChecks b k) (refl, (refl, (refl, tt)))
+
+tests-so : (b : Book) (i j c : ℕ) → Tests b i j c (ours .link b i j c)
+tests-so b i j c =
+    record {
+      says =
+          says-checked linkSays Link.Refused (λ r. refl) (told b i j c) (linkChecks b i j c) (refl, (refl, (refl, tt)))
+          ∙ ap (λ (r : Reply). checked (linkChecks b i j c) refused r) (told-says b i j c);
+    }
+
+-- its own runs are those of demand 3: what it accepts is what the entries accept
+accepts-so : (a : Change) (b : Book) → Accepts ours a b ↔ Accepted a b
+accepts-so a b = ((λ e. sym (change-says a b) ∙ ap answerSays e), (λ e. answer-tells (ours .answers a b) Answer.Done (change-says a b ∙ e)))
+
+runs-so : (changes : List Change) (b : Book) → ownRun ours changes b ≡ run changes b
+unfolding ownRun run
+runs-so [] b = refl
+runs-so (a ∷ rest) b = runs-so rest (after a b)
+
+never-so : (k : ℕ) (changes : List Change) (b : Book) → NeverWithdrawn ours k changes b ↔ NotWithdrawn k changes b
+unfolding NeverWithdrawn NotWithdrawn
+never-so k [] b = ((λ w. tt), (λ w. tt))
+never-so k (a ∷ rest) b =
+    let more = never-so k rest (after a b) in (
+      (λ w. ((λ e q. w .0 e (accepts-so a b .1 q)), more .0 (w .1))),
+      (λ w. ((λ e q. w .0 e (accepts-so a b .0 q)), more .1 (w .1))),
+    )
+
+-- a notice that was accepted in one of two equal books, and not withdrawn since
+holds-so : (n : ℕ) (changes : List Change) (x : Notice) → Holds ours n changes x ↔ StandsSince (opened n) changes x
+holds-so n changes x = (
+  (λ w.
+      let own : Book = ownRun ours (w .before) (opened n) in
+      let same = runs-so (w .before) (opened n) in
+      record {
+        before = w .before;
+        later = w .later;
+        order = w .order;
+        accepted = subst (Accepted (Change.file x)) same (accepts-so (Change.file x) own .0 (w .accepted));
+        kept = subst (λ (b : Book). NotWithdrawn (x .number) (w .later) (after (Change.file x) b)) same (never-so (x .number) (w .later) (after (Change.file x) own) .0 (w .kept));
+      }),
+  (λ w.
+      let theirs : Book = run (w .before) (opened n) in
+      let same = sym (runs-so (w .before) (opened n)) in
+      record {
+        before = w .before;
+        later = w .later;
+        order = w .order;
+        accepted = subst (Accepts ours (Change.file x)) same (accepts-so (Change.file x) theirs .1 (w .accepted));
+        kept = subst (λ (b : Book). NeverWithdrawn ours (x .number) (w .later) (after (Change.file x) b)) same (never-so (x .number) (w .later) (after (Change.file x) theirs) .1 (w .kept));
+      }),
 )
+
+stops-so : StopsWhatIsNamed ours
+stops-so n legal changes i j c link =
+    subst (λ (b : Book). ((ours .link b i j c ≡ Link.Clear) × (Named ours n changes i j c → ⊥)) ⊎ ((ours .link b i j c ≡ Link.Stopped) × Named ours n changes i j c))
+    (sym (runs-so changes (opened n)))
+    (⊎-elim
+    (λ w. inl (w .0, λ v. w .1 (v .0, holds-so n changes (v .0) .0 (v .1), v .2)))
+    (λ w. inr (w .0, (w .1 .0, holds-so n changes (w .1 .0) .1 (w .1 .1), w .1 .2)))
+    (link-exactly n legal changes i j c (link .0) (link .1) (link .2) (ours .link (run changes (opened n)) i j c) (tests-so (run changes (opened n)) i j c)))
+
+pub some-controller-meets-all : (c : Controller Book) × FilesAsPromised c × RoutesAsPromised c × StopsWhatIsNamed c
+some-controller-meets-all = (ours, (λ b x. record { says = change-says (Change.file x) b; leaves = refl }), routes-so, stops-so)

@@ -8,6 +8,7 @@ pub mod Walks
 pub mod Clearness
 pub mod DemandThree
 pub mod Sheets
--- some controller keeps the promises, and none of the worthless ones does
+-- some controller meets the demands, none of a worthless kind does, and there are controllers of each kind
 pub mod Keeping
 pub mod Worthless
+pub mod Idle

@@ -1,50 +1,55 @@
--- Document 01, 'How much the promises must say' and 'Errors seen in such controllers': the controllers that the promises have to
--- exclude, each said of any controller at all. Worthless.antt proves that none of them keeps its promises.
+-- Document 01, 'How much the promises must say' and 'Errors seen in such controllers': the controllers that have to be excluded, each
+-- said of any controller at all and under the demand that 01 excludes it by. Worthless.antt proves that none of them meets that demand.
 use mathlib.Core.Path.{_≡_}
-use mathlib.Core.Bool.{true}
-use mathlib.Core.List.{List, List·Memᴰ}
+use mathlib.Core.Bool.{true, false}
+use mathlib.Core.List.{List, [], _∷_, _++_}
+use mathlib.Core.Logic.{_⊎_}
 use Prim.Native.Nat.{ℕ, suc, _<_}
-use lib.ListN.{length, getD}
+use lib.ListN.{getD}
 use Rattle.table.specs.declared.Refusal.{Refusal}
 use Rattle.table.specs.Checks.{Passed}
+use Rattle.fabric.specs.Labels.{size, outsideSizes}
+use Rattle.fabric.specs.Links.{Code}
 use Rattle.fabric.specs.Walks.{switchAt}
 use Rattle.scheme.specs.Tags.{stepsOf}
 use Rattle.paths.specs.Clear.{ClearPath, StageNamed}
 use Rattle.notices.specs.declared.Notice.{Notice}
+use Rattle.notices.specs.Targets.{names}
 use Rattle.book.specs.declared.Book.{Book}
-use Rattle.book.specs.declared.Kept.{Kept}
 use Rattle.book.specs.declared.Answer.{Answer}
 use Rattle.book.specs.declared.Link.{Link}
-use Rattle.notices.specs.Targets.{names}
-use Rattle.book.specs.Standing.{standing, stopsOf}
-use Rattle.book.specs.Entries.{Files, Withdraws, Tests}
+use Rattle.book.specs.Standing.{stopsOf}
+use Rattle.book.specs.Entries.{Files}
+use Rattle.book.specs.Runs.{Change}
 use Rattle.crossing.specs.declared.Found.{Found}
 use Rattle.router.specs.Entries.{routeChecks, Routes}
 
--- what a controller answers
-pub record Controller : Type 0 where
-  pub file : Book → Notice → Kept
-  pub withdraw : Book → ℕ → Kept
-  pub link : Book → ℕ → ℕ → ℕ → Link
-  pub route : Book → ℕ → ℕ → Found
+-- what a controller does, over books of a kind of its own: the book that it opens, its answer to a change and the book after it, its
+-- link test and its routes
+pub record Controller (B : Type 0) : Type 0 where
+  pub opens : ℕ → B
+  pub answers : Change → B → Answer
+  pub leaves : Change → B → B
+  pub link : B → ℕ → ℕ → ℕ → Link
+  pub route : B → ℕ → ℕ → Found
 
--- its answers are those that the entries promise. `some-controller-keeps` says that there is such a controller.
-pub record Keeps (c : Controller) : Type 0 where
-  pub files : (b : Book) (x : Notice) → Files b x (c .file b x)
-  pub withdraws : (b : Book) (k : ℕ) → Withdraws b k (c .withdraw b k)
-  pub tests : (b : Book) (i j code : ℕ) → Tests b i j code (c .link b i j code)
-  pub routes : (b : Book) (s d : ℕ) → Routes b s d (c .route b s d)
+-- Demand 1 with the table, for filings, and demand 2: its answers are those that the entries promise.
+abbrev pub FilesAsPromised : Controller Book → Type 0
+FilesAsPromised c = (b : Book) (x : Notice) → Files b x (record { book = c .leaves (Change.file x) b; answer = c .answers (Change.file x) b })
+
+abbrev pub RoutesAsPromised : Controller Book → Type 0
+RoutesAsPromised c = (b : Book) (s d : ℕ) → Routes b s d (c .route b s d)
 
 -- "one that says 11 to every route": every one that 16 and 10 let through
-abbrev pub SaysElevenAlways : Controller → Type 0
+abbrev pub SaysElevenAlways : Controller Book → Type 0
 SaysElevenAlways c = (b : Book) (s d : ℕ) → Passed (routeChecks b s d) → (i : ℕ) × (c .route b s d ≡ Found.None i)
 
 -- "one that gives tag 0 always"
-abbrev pub GivesTagZeroAlways : Controller → Type 0
+abbrev pub GivesTagZeroAlways : Controller Book → Type 0
 GivesTagZeroAlways c = (b : Book) (s d t : ℕ) → c .route b s d ≡ Found.Tag t → t ≡ 0
 
 -- "one that names an invented stage": somewhere, one that is not the stage named
-pub record InventsAStage (c : Controller) : Type 0 where
+pub record InventsAStage (c : Controller Book) : Type 0 where
   pub book : Book
   pub source : ℕ
   pub destination : ℕ
@@ -53,52 +58,22 @@ pub record InventsAStage (c : Controller) : Type 0 where
   pub invented : StageNamed (book .n) (stopsOf book) source destination stage → ⊥
 
 -- "one that refuses every filing"
-abbrev pub RefusesEveryFiling : Controller → Type 0
-RefusesEveryFiling c = (b : Book) (x : Notice) → (why : Refusal) × (c .file b x .answer ≡ Answer.Refused why)
-
--- whether every link tests alike in two books
-abbrev pub SameLinks : Controller → Book → Book → Type 0
-SameLinks c a b = (i j code : ℕ) → c .link a i j code ≡ c .link b i j code
-
--- "one whose filings change nothing"
-abbrev pub FilesNothing : Controller → Type 0
-FilesNothing c = (b : Book) (x : Notice) → SameLinks c (c .file b x .book) b
-
--- "one that stores the first filing and merely acknowledges later ones"
-abbrev pub StoresTheFirstOnly : Controller → Type 0
-StoresTheFirstOnly c = (b : Book) (x : Notice) → 0 < length (standing b) → c .file b x .answer ≡ Answer.Done → SameLinks c (c .file b x .book) b
-
--- "Withdrawal .. opening a link that another notice still names."
-pub record OpensForBoth (c : Controller) : Type 0 where
-  pub book : Book
-  pub number : ℕ
-  pub withdrawn : c .withdraw book number .answer ≡ Answer.Done
-  pub other : Notice
-  pub stands : List·Memᴰ other (standing book)
-  pub another : other .number ≡ number → ⊥
-  pub stage : ℕ
-  pub switch : ℕ
-  pub code : ℕ
-  pub still : names (book .n) (other .target) stage switch code ≡ true
-  pub opens : c .link (c .withdraw book number .book) stage switch code ≡ Link.Clear
-
--- "Plus and minus treated as one link at the last stage."
-abbrev pub PlusAndMinusOneLink : Controller → Type 0
-PlusAndMinusOneLink c = (b : Book) (i j : ℕ) → suc i ≡ b .n → c .link b i j 1 ≡ c .link b i j 2
+abbrev pub RefusesEveryFiling : Controller Book → Type 0
+RefusesEveryFiling c = (b : Book) (x : Notice) → (why : Refusal) × (c .answers (Change.file x) b ≡ Answer.Refused why)
 
 -- "Taking the spare link only where the stopped one starts.": the link that is taken at a switch follows from the size, source,
 -- destination, stage and switch, and from what stops the switch's own three links
 abbrev switchOf : Book → ℕ → ℕ → ℕ → ℕ
 switchOf b s t i = switchAt (b .n) s (stepsOf (b .n) s t) i
 
-pub record LooksOnlyWhereItStands (c : Controller) : Type 0 where
+pub record LooksOnlyWhereItStands (c : Controller Book) : Type 0 where
   pub choose : (n s d stage switch straight plus minus : ℕ) → ℕ
   pub chosen : (b : Book) (s d t i : ℕ) → c .route b s d ≡ Found.Tag t → i < b .n
       → getD (stepsOf (b .n) s t) i 0
       ≡ choose (b .n) s d i (switchOf b s t i) (stopsOf b i (switchOf b s t i) 0) (stopsOf b i (switchOf b s t i) 1) (stopsOf b i (switchOf b s t i) 2)
 
 -- "Answering "none" after the first failed turn back.": somewhere, although a path is clear
-pub record GivesUp (c : Controller) : Type 0 where
+pub record GivesUp (c : Controller Book) : Type 0 where
   pub book : Book
   pub source : ℕ
   pub destination : ℕ
@@ -106,3 +81,103 @@ pub record GivesUp (c : Controller) : Type 0 where
   pub answers : c .route book source destination ≡ Found.None stage
   pub steps : List ℕ
   pub clear : ClearPath (book .n) (stopsOf book) source destination steps
+
+-- Demand 3's first half, of any controller along its own runs: what it accepted, by its own answers, and what its own link test says.
+module _ {B : Type 0} (c : Controller B) where
+  abbrev pub Accepts : Change → B → Type 0
+  Accepts a b = c .answers a b ≡ Answer.Done
+
+  unfoldable pub ownRun : List Change → B → B
+  ownRun [] b = b
+  ownRun (a ∷ rest) b = ownRun rest (c .leaves a b)
+
+  -- the book after a run from the book that it opens for n stages
+  abbrev pub ended : ℕ → List Change → B
+  ended n changes = ownRun changes (c .opens n)
+
+  -- no change of the list, made in its turn from this book on, is an accepted withdrawal of number k
+  unfoldable pub NeverWithdrawn : ℕ → List Change → B → Type 0
+  NeverWithdrawn k [] b = Unit
+  NeverWithdrawn k (a ∷ rest) b = (a ≡ Change.withdraw k → Accepts a b → ⊥) × NeverWithdrawn k rest (c .leaves a b)
+
+  -- "notices accepted and not withdrawn since"
+  pub record Holds (n : ℕ) (changes : List Change) (x : Notice) : Type 0 where
+    pub before : List Change
+    pub later : List Change
+    pub order : changes ≡ before ++ Change.file x ∷ later
+    pub accepted : Accepts (Change.file x) (ended n before)
+    pub kept : NeverWithdrawn (x .number) later (c .leaves (Change.file x) (ended n before))
+
+  -- such a notice names the link
+  abbrev pub Named : ℕ → List Change → ℕ → ℕ → ℕ → Type 0
+  Named n changes i j code = (x : Notice) × Holds n changes x × (names n (x .target) i j code ≡ true)
+
+  -- a link of a fabric of n stages
+  abbrev pub IsLink : ℕ → ℕ → ℕ → ℕ → Type 0
+  IsLink n i j code = (i < n) × (j < size n) × Code code
+
+  -- "After any run of filings and withdrawals from an empty book, refused ones among them, the stopped links are exactly those named by
+  -- notices accepted and not withdrawn since"
+  abbrev pub StopsWhatIsNamed : Type 0
+  StopsWhatIsNamed = (n : ℕ) → outsideSizes n ≡ false → (changes : List Change) (i j code : ℕ) → IsLink n i j code
+      → ((c .link (ended n changes) i j code ≡ Link.Clear) × (Named n changes i j code → ⊥)) ⊎ ((c .link (ended n changes) i j code ≡ Link.Stopped) × Named n changes i j code)
+
+  -- Every link tests alike in two books.
+  abbrev pub SameLinks : B → B → Type 0
+  SameLinks a b = (i j code : ℕ) → c .link a i j code ≡ c .link b i j code
+
+  -- after a run it accepts a filing that names a link which no notice named before
+  pub record AcceptsAfter (n : ℕ) (changes : List Change) (x : Notice) : Type 0 where
+    pub accepts : Accepts (Change.file x) (ended n changes)
+    pub stage : ℕ
+    pub switch : ℕ
+    pub code : ℕ
+    pub link : IsLink n stage switch code
+    pub names : names n (x .target) stage switch code ≡ true
+    pub unnamed : Named n changes stage switch code → ⊥
+
+  -- "one whose filings change nothing": it accepts one, and none changes what a link test says
+  pub record FilesNothing : Type 0 where
+    pub n : ℕ
+    pub legal : outsideSizes n ≡ false
+    pub notice : Notice
+    pub acknowledges : AcceptsAfter n [] notice
+    pub nothing : (b : B) (x : Notice) → SameLinks (c .leaves (Change.file x) b) b
+
+  -- "one that stores the first filing and merely acknowledges later ones": while a notice stands, what it accepts changes no link
+  pub record StoresTheFirstOnly : Type 0 where
+    pub n : ℕ
+    pub legal : outsideSizes n ≡ false
+    pub changes : List Change
+    pub first : Notice
+    pub stands : Holds n changes first
+    pub later : Notice
+    pub acknowledges : AcceptsAfter n changes later
+    pub nothing : (x : Notice) → Accepts (Change.file x) (ended n changes) → SameLinks (c .leaves (Change.file x) (ended n changes)) (ended n changes)
+
+  -- "Withdrawal .. opening a link that another notice still names."
+  pub record OpensForBoth : Type 0 where
+    pub n : ℕ
+    pub legal : outsideSizes n ≡ false
+    pub changes : List Change
+    pub number : ℕ
+    pub other : Notice
+    pub stands : Holds n changes other
+    pub another : number ≡ other .number → ⊥
+    pub stage : ℕ
+    pub switch : ℕ
+    pub code : ℕ
+    pub link : IsLink n stage switch code
+    pub still : names n (other .target) stage switch code ≡ true
+    pub opens : c .link (ended n (changes ++ Change.withdraw number ∷ [])) stage switch code ≡ Link.Clear
+
+  -- "Plus and minus treated as one link at the last stage.": although it accepts a filing of plus alone
+  pub record PlusAndMinusOneLink : Type 0 where
+    pub last : ℕ
+    pub legal : outsideSizes (suc last) ≡ false
+    pub changes : List Change
+    pub switch : ℕ
+    pub label : switch < size (suc last)
+    pub plus : Named (suc last) changes last switch 1
+    pub minus : Named (suc last) changes last switch 2 → ⊥
+    pub one : (b : B) (j : ℕ) → c .link b last j 1 ≡ c .link b last j 2
