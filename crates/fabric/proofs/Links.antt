@@ -1,5 +1,6 @@
 -- Laws of a single link: document 000's lemma 2.1, without the table that chooses the link.
 use mathlib.Core.Path.{_≡_, refl, sym, ap, _∙_}
+use mathlib.Core.Logic.{_⊎_, inl, inr, ⊎-elim, _↔_}
 use Prim.Native.Nat.{ℕ, zero, suc, _+_, _-_, _*_, _%_, _^_, _≤_, _<_}
 use native.Mathlib.Nat.{mod-lt, mod-eq-of-lt, mod-add-mod, mod-mod, pow-suc, add-mod-right, mul-add-mod-self-right, suc-mul}
 use native.Mathlib.Omega.{arith}
@@ -7,6 +8,15 @@ use lib.Pow.{pow-pos, pow-mono, pow-add, high}
 use Rattle.fabric.specs.Labels.{size, bit, Agree}
 use Rattle.fabric.specs.Links.{Code, lands}
 use Rattle.fabric.proofs.Bits.{low-of-low, low-more, turned, agree-more, agree-bit, bit-of-low}
+
+-- "straight (code 0)", "plus (code 1)", "minus (code 2)", and there is no other
+pub three-codes : (c : ℕ) → Code c ↔ ((c ≡ 0) ⊎ ((c ≡ 1) ⊎ (c ≡ 2)))
+three-codes c = (told c, ⊎-elim (λ e. omega arith) (⊎-elim (λ e. omega arith) (λ e. omega arith)))
+  where
+    told : (x : ℕ) → Code x → (x ≡ 0) ⊎ ((x ≡ 1) ⊎ (x ≡ 2))
+    told zero h = inl refl
+    told (suc zero) h = inr (inl refl)
+    told (suc (suc x)) h = inr (inr (omega arith))
 
 -- what holds of the three codes holds of every code
 pub each-code : (P : ℕ → Type 0) → P 0 → P 1 → P 2 → (c : ℕ) → Code c → P c
@@ -30,6 +40,33 @@ module _ (n i : ℕ) where
 module _ (n i : ℕ) (h : i < n) where
   whole : (size n - 2 ^ i) + 2 ^ i ≡ size n
   whole = let l : 2 ^ i ≤ 2 ^ n = pow-mono (omega arith) in omega arith
+
+  -- "straight .. to j, plus .. to j + 2^i, minus .. to j - 2^i", with N taken off above N and added below zero
+  pub straight-lands : (j : ℕ) → lands n i 0 j ≡ j
+  straight-lands j = refl
+
+  pub plus-lands : (j : ℕ) → j < size n → (j + 2 ^ i < size n → lands n i 1 j ≡ j + 2 ^ i) × (size n ≤ j + 2 ^ i → lands n i 1 j + size n ≡ j + 2 ^ i)
+  plus-lands j l = (
+    (λ less. mod-eq-of-lt less),
+    λ more.
+        let x : ℕ = j + 2 ^ i - size n in
+        let w = whole in
+        let e : lands n i 1 j ≡ x = ap (λ (y : ℕ). y % size n) {x = j + 2 ^ i} {y = x + size n} (omega arith) ∙ add-mod-right x (size n) ∙ mod-eq-of-lt (omega arith) in
+        omega arith,
+  )
+
+  pub minus-lands : (j : ℕ) → j < size n → (2 ^ i ≤ j → lands n i 2 j + 2 ^ i ≡ j) × (j < 2 ^ i → lands n i 2 j + 2 ^ i ≡ j + size n)
+  minus-lands j l = (
+    (λ above.
+        let x : ℕ = j - 2 ^ i in
+        let w = whole in
+        let e : lands n i 2 j ≡ x = ap (λ (y : ℕ). y % size n) {x = j + (size n - 2 ^ i)} {y = x + size n} (omega arith) ∙ add-mod-right x (size n) ∙ mod-eq-of-lt (omega arith) in
+        omega arith),
+    λ below.
+        let w = whole in
+        let e : lands n i 2 j ≡ j + (size n - 2 ^ i) = mod-eq-of-lt (omega arith) in
+        omega arith,
+  )
 
   -- minus and plus undo each other: minus takes off what plus adds
   pub minus-then-plus : (j : ℕ) → j < size n → lands n i 1 (lands n i 2 j) ≡ j

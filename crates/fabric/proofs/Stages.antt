@@ -2,16 +2,30 @@
 -- more after each stage.
 use mathlib.Core.Path.{_≡_, refl, sym, ap, ap₂, subst, _∙_}
 use mathlib.Core.List.{List, [], _∷_, _++_}
+use mathlib.Core.Logic.{_↔_}
 use Prim.Native.Nat.{ℕ, zero, suc, _+_, _^_, _%_, _≤_, _<_}
 use native.Mathlib.Nat.{add-zero}
 use native.Mathlib.Omega.{arith}
-use lib.ListN.{length, take, drop, getD, length-drop, take-append-drop}
+use lib.ListN.{length, take, drop, getD, replicate, length-replicate, length-drop, take-append-drop}
 use lib.Seq.{length-take-le, take-length, take-suc}
 use Rattle.fabric.specs.Labels.{size, Agree}
-use Rattle.fabric.specs.Links.{lands}
-use Rattle.fabric.specs.Walks.{Path, walked, switchAt}
+use Rattle.fabric.specs.Links.{Code, lands}
+use Rattle.fabric.specs.Walks.{Codes, Steps, Path, walked, switchAt}
 use Rattle.fabric.proofs.Bits.{agree-less, agree-below}
 use Rattle.fabric.proofs.Links.{lands-lt, low-bits-stay, toward-straight}
+
+-- codes are codes in every place
+pub codes-each : (cs : List ℕ) → Codes cs ↔ ((k : ℕ) → k < length cs → Code (getD cs k 0))
+codes-each cs = (each cs, all cs)
+  where
+    each : (xs : List ℕ) → Codes xs → (k : ℕ) → k < length xs → Code (getD xs k 0)
+    each [] h k l = absurd (omega arith)
+    each (x ∷ xs) h zero l = h .0
+    each (x ∷ xs) h (suc k) l = each xs (h .1) k (omega arith)
+
+    all : (xs : List ℕ) → ((k : ℕ) → k < length xs → Code (getD xs k 0)) → Codes xs
+    all [] f = tt
+    all (x ∷ xs) f = (f 0 (omega arith), all xs (λ k l. f (suc k) (omega arith)))
 
 module _ (n : ℕ) where
   pub walked-lt : (i j : ℕ) (cs : List ℕ) → j < size n → walked n i j cs < size n
@@ -64,6 +78,17 @@ module _ (n : ℕ) where
       let e : take n cs ≡ cs = ap (λ (m : ℕ). take m cs) (sym l) ∙ take-length cs in
       agree-below n (walked n 0 s cs) d (walked-lt 0 s cs hs) hd (subst (λ (x : List ℕ). Agree n (walked n 0 s x) d) e (a n (omega arith)))
 
+  -- a path is steps that lie at s in column 0 and at d in column n
+  pub path-exactly : (s d : ℕ) (cs : List ℕ) → Path n s d cs ↔ (Steps n cs × (switchAt n s cs 0 ≡ s) × (switchAt n s cs n ≡ d))
+  unfolding walked
+  path-exactly s d cs = (
+    λ p. (p .steps, refl, ap (walked n 0 s) (whole (p .steps)) ∙ p .arrives),
+    λ w. record { steps = w .0; arrives = sym (ap (walked n 0 s) (whole (w .0))) ∙ w .2 },
+  )
+    where
+      whole : Steps n cs → take n cs ≡ cs
+      whole steps = ap (λ (m : ℕ). take m cs) (sym (steps .stages)) ∙ take-length cs
+
   -- "For s = d the straight path is the only one."
   straight-step : (s : ℕ) (cs : List ℕ) → Path n s s cs → (k : ℕ) → k < n → switchAt n s cs k ≡ s → getD cs k 0 ≡ 0
   straight-step s cs p k h here =
@@ -83,3 +108,24 @@ module _ (n : ℕ) where
 
   pub straight-only : (s : ℕ) (cs : List ℕ) → Path n s s cs → (k : ℕ) → k < n → getD cs k 0 ≡ 0
   straight-only s cs p k h = straight-step s cs p k h (straight-so-far s cs p k (omega arith))
+
+  -- and it is one: n straight codes, whatever n and s
+  straight-stays : (i s k : ℕ) → walked n i s (replicate k 0) ≡ s
+  unfolding walked
+  straight-stays i s zero = refl
+  straight-stays i s (suc k) = straight-stays (suc i) s k
+
+  straight-codes : (k : ℕ) → Codes (replicate k 0)
+  straight-codes zero = tt
+  straight-codes (suc k) = (omega arith, straight-codes k)
+
+  all-straight : (cs : List ℕ) → ((k : ℕ) → k < length cs → getD cs k 0 ≡ 0) → cs ≡ replicate (length cs) 0
+  all-straight [] f = refl
+  all-straight (c ∷ cs) f = ap₂ (λ (x : ℕ) (xs : List ℕ). x ∷ xs) (f 0 (omega arith)) (all-straight cs (λ k l. f (suc k) (omega arith)))
+
+  pub straight-exactly : (s : ℕ) (cs : List ℕ) → Path n s s cs ↔ (cs ≡ replicate n 0)
+  straight-exactly s cs = (
+    λ p. let l = p .steps .stages in all-straight cs (λ k h. straight-only s cs p k (omega arith)) ∙ ap (λ (m : ℕ). replicate m 0) l,
+    λ e. subst (Path n s s) (sym e)
+        (record { steps = record { stages = length-replicate n 0; codes = straight-codes n }; arrives = straight-stays 0 s n }),
+  )
