@@ -1,4 +1,5 @@
 pub mod Table
 pub mod Steps
 pub mod States
+pub mod Tags
 pub mod NormalTags

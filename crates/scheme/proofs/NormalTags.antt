@@ -2,12 +2,11 @@
 -- steps.
 use mathlib.Core.Path.{_≡_, refl, sym, ap, subst, _∙_}
 use mathlib.Core.List.{List, [], _∷_}
-use Prim.Native.Nat.{ℕ, zero, suc, _+_, _-_, _*_, _/_, _%_, _^_, _≤_, _<_}
-use native.Mathlib.Nat.{zero-add, mul-suc, mul-le-mul-left, mod-eq-of-lt, add-mul-mod-self-left, add-mul-div-left, div-eq-of-lt}
+use Prim.Native.Nat.{ℕ, zero, suc, _+_, _-_, _*_, _%_, _^_, _≤_, _<_}
+use native.Mathlib.Nat.{zero-add, mul-suc, mul-le-mul-left}
 use native.Mathlib.Decide.{ℕ-discrete, decLt}
 use native.Mathlib.Omega.{arith}
 use lib.ListN.{length, getD}
-use lib.Pow.{shr-shr, pow-pos, pow-add}
 use Rattle.fabric.specs.Labels.{size, bit, Agree}
 use Rattle.fabric.specs.Links.{Code, lands}
 use Rattle.fabric.specs.Walks.{Codes, Steps, Path, walked, switchAt}
@@ -19,6 +18,7 @@ use Rattle.scheme.specs.Tags.{tags, destination, state, stepsOf, statesO
 use Rattle.scheme.proofs.Table.{link-straight, stateFor-link, link-stateFor}
 use Rattle.scheme.proofs.Steps.{steps-of-tag, tag-arrives, tag-follows, follows-tag}
 use Rattle.scheme.proofs.States.{states-lt, states-bit}
+use Rattle.scheme.proofs.Tags.{tags-counted, tag-destination, tag-state}
 
 -- the code of a stage is a code
 pub code-at : (cs : List ℕ) (k : ℕ) → Codes cs → Code (getD cs k 0)
@@ -43,17 +43,11 @@ path-follows n s d cs p k h =
 
 module _ (n s : ℕ) (source : s < size n) (cs : List ℕ) where
   pub normal-destination : destination n (normalTag n s cs) ≡ walked n 0 s cs
-  normal-destination = add-mul-mod-self-left (walked n 0 s cs) (size n) (statesOf n 0 s cs) ∙ mod-eq-of-lt (walked-lt n 0 s cs source)
+  normal-destination = tag-destination n (walked n 0 s cs) (statesOf n 0 s cs) (walked-lt n 0 s cs source)
 
   pub normal-state : (k : ℕ) → k < length cs → state n (normalTag n s cs) k ≡ stateFor (bit k (switchAt n s cs k)) (getD cs k 0)
   normal-state k h =
-      let x : ℕ = normalTag n s cs in
-      let e : x / size n ≡ statesOf n 0 s cs =
-      add-mul-div-left (walked n 0 s cs) (statesOf n 0 s cs) (pow-pos n)
-      ∙ ap (λ (m : ℕ). m + statesOf n 0 s cs) (div-eq-of-lt (walked-lt n 0 s cs source))
-      ∙ zero-add (statesOf n 0 s cs) in
-      ap (λ (m : ℕ). m % 2) (sym (shr-shr x n k))
-      ∙ ap (bit k) e
+      tag-state n (walked n 0 s cs) (statesOf n 0 s cs) k (walked-lt n 0 s cs source)
       ∙ states-bit n 0 s cs k h
       ∙ ap (λ (m : ℕ). stateFor (bit m (switchAt n s cs k)) (getD cs k 0)) (zero-add k)
 
@@ -64,7 +58,7 @@ module _ (n s : ℕ) (source : s < size n) (cs : List ℕ) where
       let w = walked-lt n 0 s cs source in
       let m : size n * suc x ≤ size n * size n = mul-le-mul-left (size n) h in
       let d = mul-suc (size n) x in
-      let p : size n * size n ≡ tags n = sym (pow-add 2 n n) ∙ ap (λ (m : ℕ). 2 ^ m) {x = n + n} {y = 2 * n} (omega arith) in
+      let p = tags-counted n in
       omega arith
 
   -- each step is the one that the table gives for its normal state

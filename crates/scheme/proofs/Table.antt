@@ -1,9 +1,20 @@
 -- Laws of the two-bit scheme's table, read forward and backward.
 use mathlib.Core.Path.{_≡_, refl}
+use mathlib.Core.List.{[], _∷_}
 use Prim.Native.Nat.{ℕ, zero, suc, _-_, _≤_, _<_}
 use native.Mathlib.Omega.{arith}
 use Rattle.fabric.specs.Links.{Code}
 use Rattle.scheme.specs.Scheme.{link, stateFor}
+
+-- 01's table from top to bottom: bit i of j, t, state 0 and then 1
+pub table-in-rows :
+    link 0 0 0 ∷ link 0 0 1 ∷ link 0 1 0 ∷ link 0 1 1 ∷ link 1 1 0 ∷ link 1 1 1 ∷ link 1 0 0 ∷ link 1 0 1 ∷ []
+    ≡ 0 ∷ 0 ∷ 1 ∷ 2 ∷ 0 ∷ 0 ∷ 2 ∷ 1 ∷ []
+table-in-rows = refl
+
+-- and backward: straight, plus and minus of a switch whose bit is 0, and of one whose bit is 1
+pub states-in-rows : stateFor 0 0 ∷ stateFor 0 1 ∷ stateFor 0 2 ∷ stateFor 1 0 ∷ stateFor 1 1 ∷ stateFor 1 2 ∷ [] ≡ 0 ∷ 0 ∷ 1 ∷ 0 ∷ 1 ∷ 0 ∷ []
+states-in-rows = refl
 
 -- a switch whose bit is the destination's goes straight
 pub link-straight : (b t state : ℕ) → b ≡ t → link b t state ≡ 0

@@ -1,5 +1,5 @@
 -- A case for each code: straight, plus, minus.
-use mathlib.Core.Path.{sym}
+use mathlib.Core.Path.{_≡_, sym}
 use native.Mathlib.Omega.{arith}
 use borrow.Author.Needs.{needs}
 use Rattle.scheme.proofs.Table.{stateFor-plus, stateFor-minus}
@@ -7,7 +7,7 @@ use Rattle.scheme.proofs.state_for.Statement.{statement}
 use Rattle.scheme.proofs.state_for.Tie as tie
 
 returns : tie.Need-returns
-returns c = search needs
+returns c = let z : c .before .args .code ≡ 0 = omega arith in (rw z, search needs)
 
 returns-2 : tie.Need-returns-2
 returns-2 c = (rw (c .if2 .taken) (sym (stateFor-plus (c .before .before .args .b) (search needs))), search needs)
