@@ -1,4 +1,4 @@
--- Over one rule a route has one answer, and it says 11 exactly where 01 does.
+-- Over one rule a route has one answer, and it says 11, or a tag, exactly where 01 does.
 use mathlib.Core.Path.{_≡_, sym, ap, subst, _∙_}
 use mathlib.Core.List.{List, [], _∷_}
 use mathlib.Core.Logic.{_↔_}
@@ -6,10 +6,10 @@ use Prim.Native.Nat.{ℕ}
 use native.Mathlib.Omega.{arith}
 use Rattle.table.proofs.Checks.{zero-one}
 use Rattle.table.specs.Numbers.{numberOf}
-use Rattle.table.specs.Reply.{Reply, refused}
-use Rattle.table.proofs.Numbers.{number-tells}
+use Rattle.table.specs.Reply.{Reply, refused, Numbered}
+use Rattle.table.proofs.Numbers.{number-tells, above-zero}
 use Rattle.scheme.specs.Tags.{normalTag}
-use Rattle.paths.specs.Clear.{Rule, ClearPath, StageNamed}
+use Rattle.paths.specs.Clear.{Rule, ClearPath, First, StageNamed}
 use Rattle.paths.proofs.Order.{first-once}
 use Rattle.paths.proofs.Walks.{stage-once}
 use Rattle.crossing.specs.declared.Found.{Found}
@@ -22,6 +22,12 @@ found-tells (Found.None i) b k e f = absurd (zero-one cc)
 found-tells (Found.Refused q) (Found.Tag t) k e f = absurd (zero-one cc)
 found-tells (Found.Refused q) (Found.None j) k e f = absurd (zero-one cc)
 found-tells (Found.Refused q) (Found.Refused r) k e f = let z : numberOf q ≡ numberOf r = cc in ap Found.Refused (number-tells q r z)
+
+-- a route that is refused has a number of the table
+pub found-numbered : (a : Found) → Numbered (routeSays a)
+found-numbered (Found.Tag t) = tt
+found-numbered (Found.None i) = omega arith
+found-numbered (Found.Refused r) = above-zero r
 
 -- over one rule, a route has one answer
 module _ (n : ℕ) (stops : Rule) where
@@ -43,4 +49,14 @@ module _ (n : ℕ) (stops : Rule) where
       told : (x : Found) → Routed n stops s d x → routeSays x ≡ Reply.refusedWith 11 (i ∷ []) → ((cs : List ℕ) → ClearPath n stops s d cs → ⊥) × StageNamed n stops s d i
       told (Found.Tag t) w e = absurd (zero-one cc)
       told (Found.None j) w e = let z : j ≡ i = cc in subst (λ (k : ℕ). Routed n stops s d (Found.None k)) z w
+      told (Found.Refused r) w e = absurd w
+
+  -- "The route answer is that path's normal tag": a route is accepted with a tag, and with that alone
+  pub tag-exactly : (s d : ℕ) (a : Found) → Routed n stops s d a → (t : ℕ)
+      → (routeSays a ≡ Reply.accepted (t ∷ [])) ↔ ((cs : List ℕ) × First n stops s d cs × (t ≡ normalTag n s cs))
+  tag-exactly s d a routed t = (told a routed, λ w. ap routeSays (routed-once s d a (Found.Tag t) routed w))
+    where
+      told : (x : Found) → Routed n stops s d x → routeSays x ≡ Reply.accepted (t ∷ []) → (cs : List ℕ) × First n stops s d cs × (t ≡ normalTag n s cs)
+      told (Found.Tag u) w e = let z : u ≡ t = cc in subst (λ (k : ℕ). Routed n stops s d (Found.Tag k)) z w
+      told (Found.None j) w e = absurd (zero-one cc)
       told (Found.Refused r) w e = absurd w
