@@ -1,5 +1,6 @@
 pub mod Keys
 pub mod Walks
+pub mod Alike
 pub mod Order
 pub mod Pivots
 pub mod Places

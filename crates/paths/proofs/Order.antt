@@ -1,18 +1,19 @@
--- 01's order of paths: it is the order of keys, and of clear paths no two are first.
+-- 01's order of paths: it is that of their tags' states, stage 0 first, and so the order of keys; of clear paths no two are first.
 use mathlib.Core.Path.{_≡_, refl, sym, ap, ap₂, subst, _∙_}
-use mathlib.Core.List.{List, [], _∷_}
-use mathlib.Core.Logic.{_⊎_, inl, inr}
-use Prim.Native.Nat.{ℕ, zero, suc, _+_, _-_, _*_, _^_, _<_}
+use mathlib.Core.List.{List, [], _∷_, _++_}
+use mathlib.Core.Logic.{_⊎_, inl, inr, _↔_}
+use Prim.Native.Nat.{ℕ, zero, suc, _+_, _-_, _*_, _^_, _≤_, _<_}
 use native.Mathlib.Decide.{ℕ-discrete, decLt}
 use native.Mathlib.Omega.{arith}
 use lib.ListN.{length, take, drop, getD, length-drop, take-append-drop, List·getD-eq-default}
-use lib.Seq.{length-take-le, drop-cons}
-use Rattle.fabric.specs.Labels.{bit}
+use lib.Seq.{length-take-le, drop-cons, take-take, take-suc, getD-take}
+use Rattle.fabric.specs.Labels.{size, bit}
 use Rattle.fabric.specs.Links.{lands}
 use Rattle.fabric.specs.Walks.{Path, walked, switchAt}
 use Rattle.scheme.specs.Scheme.{link, stateFor}
+use Rattle.scheme.specs.Tags.{state, normalTag}
 use Rattle.scheme.proofs.Table.{stateFor-lt}
-use Rattle.scheme.proofs.NormalTags.{path-follows}
+use Rattle.scheme.proofs.NormalTags.{path-follows, normal-state}
 use Rattle.paths.specs.Clear.{Rule, ComesBefore, First}
 use Rattle.paths.proofs.Keys.{keyOf, key-on, key-lt}
 
@@ -76,6 +77,80 @@ earlier-key n s d cs ds p q b =
     let ones : x ≡ 1 = omega arith in
     let td : x * 2 ^ (length ds - suc k) ≡ 2 ^ m = ap₂ (λ (y z : ℕ). y * 2 ^ z) ones ed ∙ omega arith in
     omega arith
+
+-- the two tags have the same states up to a stage, and there the first has 0 and the second 1
+pub record StatesBefore (n a b : ℕ) : Type 0 where
+  pub stage : ℕ
+  pub inside : stage < n
+  pub together : (i : ℕ) → i < stage → state n a i ≡ state n b i
+  pub zeroThere : state n a stage ≡ 0
+  pub oneThere : state n b stage ≡ 1
+
+-- "where two paths first part, the one whose state bit there is 0 comes first": by the state bits of the paths' normal tags
+pub before-exactly : (n s d : ℕ) → s < size n → (cs ds : List ℕ) → Path n s d cs → Path n s d ds
+    → ComesBefore n s cs ds ↔ StatesBefore n (normalTag n s cs) (normalTag n s ds)
+before-exactly n s d source cs ds p q = (told, back)
+  where
+    lc : length cs ≡ n
+    lc = p .steps .stages
+
+    ld : length ds ≡ n
+    ld = q .steps .stages
+
+    of-first : (i : ℕ) → i < n → state n (normalTag n s cs) i ≡ stateFor (bit i (switchAt n s cs i)) (getD cs i 0)
+    of-first i h = normal-state n s source cs i (omega arith)
+
+    of-second : (i : ℕ) → i < n → state n (normalTag n s ds) i ≡ stateFor (bit i (switchAt n s ds i)) (getD ds i 0)
+    of-second i h = normal-state n s source ds i (omega arith)
+
+    less : (k i : ℕ) → i ≤ k → take k cs ≡ take k ds → take i cs ≡ take i ds
+    less k i l e = sym (take-take i k cs l) ∙ ap (take i) e ∙ take-take i k ds l
+
+    told : ComesBefore n s cs ds → StatesBefore n (normalTag n s cs) (normalTag n s ds)
+    told b =
+        let k : ℕ = b .stage in
+        let h : k < n = inside-stage n cs ds k lc ld (b .parted) in
+        let x : ℕ = stateFor (bit k (switchAt n s ds k)) (getD ds k 0) in
+        let one : (x ≡ 0 → ⊥) = λ z. b .parted (same-state-same-code n s d cs ds p q k h (b .together) (b .zeroThere ∙ sym z)) in
+        let hx = stateFor-lt (bit k (switchAt n s ds k)) (getD ds k 0) in
+        record {
+          stage = k;
+          inside = h;
+          together = λ i l.
+              let code : getD cs i 0 ≡ getD ds i 0 = sym (getD-take k cs i 0 l) ∙ ap (λ (xs : List ℕ). getD xs i 0) (b .together) ∙ getD-take k ds i 0 l in
+              of-first i (omega arith)
+              ∙ ap₂ (λ (j c : ℕ). stateFor (bit i j) c) (ap (walked n 0 s) (less k i (omega arith) (b .together))) code
+              ∙ sym (of-second i (omega arith));
+          zeroThere = of-first k h ∙ b .zeroThere;
+          oneThere = of-second k h ∙ omega arith;
+        }
+
+    code-at-stage : (i : ℕ) → i < n → take i cs ≡ take i ds → state n (normalTag n s cs) i ≡ state n (normalTag n s ds) i → getD cs i 0 ≡ getD ds i 0
+    code-at-stage i h e same = same-state-same-code n s d cs ds p q i h e (sym (of-first i h) ∙ same ∙ of-second i h)
+
+    back : StatesBefore n (normalTag n s cs) (normalTag n s ds) → ComesBefore n s cs ds
+    back b =
+        let k : ℕ = b .stage in
+        let e : take k cs ≡ take k ds = all-together k (omega arith) in
+        record {
+          stage = k;
+          together = e;
+          parted = λ same.
+              let f : state n (normalTag n s cs) k ≡ state n (normalTag n s ds) k =
+              of-first k (b .inside) ∙ ap₂ (λ (j c : ℕ). stateFor (bit k j) c) (ap (walked n 0 s) e) same ∙ sym (of-second k (b .inside)) in
+              let z = b .zeroThere in
+              let o = b .oneThere in
+              absurd (omega arith);
+          zeroThere = sym (of-first k (b .inside)) ∙ b .zeroThere;
+        }
+      where
+        all-together : (i : ℕ) → i ≤ b .stage → take i cs ≡ take i ds
+        all-together zero l = refl
+        all-together (suc i) l =
+            let inside = b .inside in
+            let e = all-together i (omega arith) in
+            let c = code-at-stage i (omega arith) e (b .together i (omega arith)) in
+            take-suc cs i 0 (omega arith) ∙ ap₂ (λ (xs : List ℕ) (x : ℕ). xs ++ (x ∷ [])) e c ∙ sym (take-suc ds i 0 (omega arith))
 
 -- two lists of one length are the same, or part somewhere
 pub record Parted (cs ds : List ℕ) : Type 0 where

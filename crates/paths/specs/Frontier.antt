@@ -1,5 +1,5 @@
 -- The router's own bookkeeping, stage by stage. Nobody has to believe it: `advanced-holds`, `found-first` and `stage-named`
--- tie it to the definitions of Clear.antt.
+-- tie it to the definitions of Clear.antt (proofs/Frontier.antt).
 use mathlib.Core.Bool.{Bool, cond}
 use Prim.Native.Nat.{ℕ, zero, suc, _+_, _-_, _*_, _^_, _≤_}
 use lib.Dec.{eqb, leb}
