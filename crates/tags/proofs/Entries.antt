@@ -59,11 +59,11 @@ later-bytes-unread n s front x y a b l p q = tag-tells a b (p .says ∙ alone x 
         rw (long z, long [], take-at front z n l, take-at front [] n l)
 
 -- codes are what the check for codes lets through
-codes-pass : (cs : List ℕ) → Codes cs → someAboveTwo cs ≡ false
+pub codes-pass : (cs : List ℕ) → Codes cs → someAboveTwo cs ≡ false
 codes-pass [] h = refl
 codes-pass (c ∷ cs) h = rw (le-ltb 2 c (omega arith)) (codes-pass cs (h .1))
 
-pass-codes : (cs : List ℕ) → someAboveTwo cs ≡ false → Codes cs
+pub pass-codes : (cs : List ℕ) → someAboveTwo cs ≡ false → Codes cs
 pass-codes [] h = tt
 pass-codes (c ∷ cs) h = go (2 below c) refl h (pass-codes cs)
   where
