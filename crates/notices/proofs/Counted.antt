@@ -4,9 +4,9 @@ use mathlib.Core.Bool.{Bool, true, false, cond, not, _&&_, _||_, and-true, and-f
 use Prim.Native.Nat.{ℕ, zero, suc, _+_, _-_, _*_, _/_, _%_, _^_, _≤_, _<_, min}
 use native.Mathlib.Nat.{pow-suc}
 use native.Mathlib.Numerals.{add-one}
-use native.Mathlib.Decide.{ℕ-discrete}
+use native.Mathlib.Decide.{ℕ-discrete, decLt}
 use native.Mathlib.Omega.{arith}
-use borrow.Author.Tests.{eq-eqb, ne-eqb, eqb-true, leb-false, ltb-true, ltb-false, not-false}
+use borrow.Author.Tests.{eq-eqb, ne-eqb, eqb-true, lt-ltb, le-ltb, leb-false, ltb-true, ltb-false, not-false}
 use lib.Dec.{eqb}
 use lib.Bits.{bitAnd, and-step, and-zero-r}
 use lib.Pow.{shr-lt, pow-mono}
@@ -14,7 +14,7 @@ use lib.Count.{ones, ones-step, ones-le}
 use Rattle.table.proofs.Checks.{neither}
 use Rattle.table.specs.Checks.{_below_, _notBelow_}
 use Rattle.fabric.specs.Labels.{size}
-use Rattle.notices.specs.declared.Target.the-variants.{Pattern}
+use Rattle.notices.specs.declared.Target.the-variants.{Links, Pattern}
 use Rattle.notices.specs.Targets.{names, setHas, badSet, badField, tooWide, unfit, howMany, switchesNamed}
 
 -- tests that agree pick the same number of labels
@@ -27,6 +27,23 @@ none-picked : (f : ℕ → Bool) → ((j : ℕ) → f j ≡ false) → (k : ℕ)
 unfolding howMany
 none-picked f h zero = refl
 none-picked f h (suc k) = ap₂ (λ (a : ℕ) (b : Bool). a + cond b 1 0) (none-picked f h k) (h k)
+
+-- a test that one label alone passes picks that one, where it is among them
+pub one-picked : (t k : ℕ) → howMany (λ j. eqb j t) k ≡ cond (t below k) 1 0
+unfolding howMany
+one-picked t zero = rw (le-ltb t 0 (omega arith))
+one-picked t (suc k) = go (ℕ-discrete k t) (decLt t k) (one-picked t k)
+  where
+    go : Dec (k ≡ t) → Dec (t < k) → howMany (λ j. eqb j t) k ≡ cond (t below k) 1 0 → howMany (λ j. eqb j t) (suc k) ≡ cond (t below suc k) 1 0
+    go (yes e) l ih =
+        let z : howMany (λ j. eqb j t) k ≡ 0 = ih ∙ rw (le-ltb t k (omega arith)) in
+        rw (z, eq-eqb k t e, lt-ltb t (suc k) (omega arith))
+    go (no e) (yes l) ih =
+        let o : howMany (λ j. eqb j t) k ≡ 1 = ih ∙ rw (lt-ltb t k l) in
+        rw (o, ne-eqb k t e, lt-ltb t (suc k) (omega arith))
+    go (no e) (no l) ih =
+        let z : howMany (λ j. eqb j t) k ≡ 0 = ih ∙ rw (le-ltb t k (omega arith)) in
+        rw (z, ne-eqb k t e, le-ltb t (suc k) (omega arith))
 
 -- the labels below twice m are the even ones and the odd ones
 even-and-odd : (f : ℕ → Bool) (m : ℕ) → howMany f (m * 2) ≡ howMany (λ j. f (j * 2 + 0)) m + howMany (λ j. f (j * 2 + 1)) m
@@ -110,6 +127,15 @@ picked-is (suc n) v m h w =
         let odd = picked-with (2 ^ n) v m 1 (omega arith) (omega arith) in
         let p : 2 ^ (suc n - ones m) ≡ 2 ^ (n - ones (m / 2)) = ap (λ (x : ℕ). 2 ^ x) {x = suc n - ones m} {y = n - ones (m / 2)} (omega arith) in
         halves ∙ omega arith
+
+-- a links notice of a switch of the fabric names one switch, for each code of its set
+pub links-name-one : (n stage switch s c : ℕ) → switch < size n → setHas s c ≡ true → switchesNamed n (Links stage switch s) stage c ≡ 1
+links-name-one n stage switch s c h has =
+    same-tests (λ j. names n (Links stage switch s) stage j c) (λ j. eqb j switch)
+    (λ j. rw (eq-eqb stage stage refl, has) (and-true (eqb j switch)))
+    (size n)
+    ∙ one-picked switch (size n)
+    ∙ rw (lt-ltb switch (size n) h)
 
 -- a pattern that check 5 passes, at its stage, for each code of its set
 module _ (n stage value mask s c : ℕ) (good : badField n (Pattern stage value mask s) ≡ false) (has : setHas s c ≡ true) where

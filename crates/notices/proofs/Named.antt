@@ -27,9 +27,20 @@ links-names n stage switch s i j c =
       (λ w. o .1 (p .1 (eq-eqb i stage (w .0), eq-eqb j switch (w .1)), w .2)),
     )
 
+-- "plus and minus reach the same switch but are two links, stopped separately": at stage n-1 as at every other
+pub stopped-separately : (n stage switch : ℕ)
+    → (names n (Links stage switch 2) stage switch 1 ≡ true)
+    × (names n (Links stage switch 2) stage switch 2 ≡ false)
+    × (names n (Links stage switch 4) stage switch 2 ≡ true)
+    × (names n (Links stage switch 4) stage switch 1 ≡ false)
+stopped-separately n stage switch =
+    let e = eq-eqb stage stage refl in
+    let f = eq-eqb switch switch refl in
+    (rw (e, f), rw (e, f), rw (e, f), rw (e, f))
+
 -- a switch notice names the input links that 01 lists
 module _ (n i w j : ℕ) (stage : i < n) (to : w < size n) (from : j < size n) where
-  lands-inputs : (c : ℕ) → Code c → (lands n i c j ≡ w) ↔ Input n i w j c
+  pub lands-inputs : (c : ℕ) → Code c → (lands n i c j ≡ w) ↔ Input n i w j c
   lands-inputs =
       each-code
       (λ c. (lands n i c j ≡ w) ↔ Input n i w j c)
@@ -65,7 +76,7 @@ bit-of-and k a b =
     ap (λ (z : ℕ). z % 2) (and-shr a b k) ∙ omega arith
 
 -- numbers with the same bits are one
-below-power : (x : ℕ) → x < 2 ^ x
+pub below-power : (x : ℕ) → x < 2 ^ x
 below-power zero = omega arith
 below-power (suc x) = let h = below-power x in let p = pow-suc 2 x in omega arith
 

@@ -5,17 +5,19 @@ use Rattle.notices.specs.declared.Notice.{Notice}
 use Rattle.notices.specs.declared.Target.{Target}
 use Rattle.notices.specs.declared.Target.the-variants.{Links, Switch, Pattern}
 
--- "Numbers are big-endian." "ten bytes an action: action 8 bits, number 16, kind 8, stage 8, switch 16, mask 16, set 8"
+-- "Numbers are big-endian." "ten bytes an action: action 8 bits, number 16, kind 8, stage 8, switch 16, mask 16, set 8".
+-- `action-laid` says it place by place (proofs/Layouts).
 abbrev pub actionBytes : ℕ → ℕ → ℕ → ℕ → ℕ → ℕ → ℕ → List ℕ
 actionBytes action number kind stage switch mask set =
     action ∷ number / 256 ∷ number % 256 ∷ kind ∷ stage ∷ switch / 256 ∷ switch % 256 ∷ mask / 256 ∷ mask % 256 ∷ set ∷ []
 
 -- "Action 1 files; the kind is the target's number above (kind 1: mask zero; kind 2: stage holds the column, mask and set
--- zero; kind 3: switch holds the value)."
+-- zero; kind 3: switch holds the value)." `links-laid`, `switch-laid` and `pattern-laid` say it place by place (proofs/Layouts).
 abbrev pub filingOf : ℕ → Target → List ℕ
 filingOf number (Links stage switch set) = actionBytes 1 number 1 stage switch 0 set
 filingOf number (Switch column switch) = actionBytes 1 number 2 column switch 0 0
 filingOf number (Pattern stage value mask set) = actionBytes 1 number 3 stage value mask set
 
+-- the action that files a notice: `filings-spelt` has four, byte by byte (proofs/Layouts)
 abbrev pub filing : Notice → List ℕ
 filing x = filingOf (x .number) (x .target)
