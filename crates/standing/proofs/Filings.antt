@@ -20,17 +20,17 @@ pub filed-if : (n k : ℕ) (l : List Notice) → misfiled n k l ≡ false → Fi
 unfolding misfiled Filed
 filed-if n k [] e = tt
 filed-if n k (x ∷ xs) e =
-    let o = neither (k notBelow x .number || unfit n (x .target)) (misfiled n (x .number) xs) e in
-    let p = neither (k notBelow x .number) (unfit n (x .target)) (o .0) in
-    (leb-false (x .number) k (p .0), p .1, filed-if n (x .number) xs (o .1))
+    let o = neither _ _ e in
+    let p = neither _ _ (o .0) in
+    (leb-false (x .number) k (p .0), p .1, filed-if n _ xs (o .1))
 
 pub filed-passes : (n k : ℕ) (l : List Notice) → Filed n k l → misfiled n k l ≡ false
 unfolding misfiled Filed
 filed-passes n k [] f = refl
-filed-passes n k (x ∷ xs) f = rw (lt-leb (x .number) k (f .0), f .1) (filed-passes n (x .number) xs (f .2))
+filed-passes n k (x ∷ xs) f = rw (lt-leb (x .number) k (f .0), f .1) (filed-passes n _ xs (f .2))
 
 -- `littered` finds anything but the filler
-first-target : (t : Target) → isFirstTarget t ≡ true → t ≡ Links 0 0 0
+pub first-target : (t : Target) → isFirstTarget t ≡ true → t ≡ Links 0 0 0
 first-target (Links stage switch s) e =
     let o = both-hold (eqb stage 0 && eqb switch 0) (eqb s 0) .0 e in
     let p = both-hold (eqb stage 0) (eqb switch 0) .0 (o .0) in
@@ -38,7 +38,7 @@ first-target (Links stage switch s) e =
 first-target (Switch column switch) e = absurd (true≢false (sym e))
 first-target (Pattern stage value mask s) e = absurd (true≢false (sym e))
 
-is-filler : (x : Notice) → isFiller x ≡ true → x ≡ filler
+pub is-filler : (x : Notice) → isFiller x ≡ true → x ≡ filler
 is-filler x e =
     let o = both-hold (eqb (x .number) 0) (isFirstTarget (x .target)) .0 e in
     ap₂ (λ (k : ℕ) (t : Target). record { number = k; target = t }) (eqb-true (x .number) 0 (o .0)) (first-target (x .target) (o .1))

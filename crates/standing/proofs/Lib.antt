@@ -1,4 +1,5 @@
 pub mod Arrays
+pub mod Distinct
 pub mod Filings
 pub mod Placing
 pub mod Listings

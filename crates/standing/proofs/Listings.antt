@@ -1,7 +1,7 @@
 -- Laws of the listing's rows: a row is ten bytes, and a row laid after the rows of the first i notices makes i + 1.
 use mathlib.Core.Path.{_≡_, refl, sym, ap, ap₂, _∙_}
 use mathlib.Core.List.{List, [], _∷_, _++_, append-assoc, append-nil}
-use Prim.Native.Nat.{ℕ, _+_, _*_, _<_}
+use Prim.Native.Nat.{ℕ, zero, suc, _+_, _*_, _<_}
 use native.Mathlib.Numerals.{add-one}
 use native.Mathlib.Omega.{arith}
 use lib.ListN.{length, take, drop, getD, length-append}
@@ -29,6 +29,16 @@ length-rows (x ∷ l) =
     let e = ten (x .number) (x .target) in
     let h = length-rows l in
     length-append (filing x) (rows l) ∙ omega arith
+
+-- "ten bytes each as filing actions": row i is the filing action of notice i
+pub row-at : (l : List Notice) (d : Notice) (i : ℕ) → i < length l → take 10 (drop (10 * i) (rows l)) ≡ filing (getD l i d)
+unfolding rows
+row-at [] d i h = absurd (omega arith)
+row-at (x ∷ l) d zero h = take-at (filing x) (rows l) 10 (ten (x .number) (x .target))
+row-at (x ∷ l) d (suc i) h =
+    let t = ten (x .number) (x .target) in
+    let e : 10 * suc i ≡ length (filing x) + 10 * i = omega arith in
+    ap (take 10) (ap (λ (k : ℕ). drop k (filing x ++ rows l)) e ∙ drop-append-add (filing x) (rows l) (10 * i)) ∙ row-at l d i (omega arith)
 
 rows-one : (x : Notice) → rows (x ∷ []) ≡ filing x
 unfolding rows

@@ -2,17 +2,18 @@
 use mathlib.Core.Path.{_≡_, refl, sym, ap, ap₂, _∙_}
 use mathlib.Core.Bool.{Bool, true, false, cond, true≢false}
 use mathlib.Core.List.{List, [], _∷_, List·Memᴰ, List·Memᴰ·head, List·Memᴰ·tail, List·Memᴰ·cases-cons, List·Memᴰ·not-nil}
-use mathlib.Core.Logic.{_⊎_, inl, inr, ⊎-elim}
-use Prim.Native.Nat.{ℕ, suc, _≤_, _<_}
+use mathlib.Core.Logic.{_⊎_, inl, inr, ⊎-elim, _↔_}
+use Prim.Native.Nat.{ℕ, zero, suc, _≤_, _<_}
 use native.Mathlib.Decide.{ℕ-discrete, decLt}
 use native.Mathlib.Omega.{arith}
 use borrow.Author.Tests.{eq-eqb, ne-eqb, lt-ltb, le-ltb}
 use lib.Dec.{eqb}
-use lib.ListN.{length}
+use lib.ListN.{length, getD}
 use Rattle.table.specs.Checks.{_below_}
 use Rattle.notices.specs.declared.Notice.{Notice}
 use Rattle.notices.specs.Targets.{unfit}
 use Rattle.standing.specs.Rising.{stands, insert, without, Filed, Distinct}
+use Rattle.standing.proofs.Distinct.{place-of, at-place}
 
 abbrev pub Within : List Notice → List Notice → Type 0
 Within t s = (x : Notice) → List·Memᴰ x t → List·Memᴰ x s
@@ -64,6 +65,34 @@ module _ (n : ℕ) where
   unfolding Filed
   filed-lower k m [] h f = tt
   filed-lower k m (y ∷ ys) h f = let g = f .0 in (omega arith, f .1, f .2)
+
+  -- "by rising number": a list is filed exactly where each of its notices lies above where it starts and is fit, and each has a
+  -- lower number than all that come after it
+  pub filed-exactly : (d : Notice) (m : ℕ) (l : List Notice)
+      → Filed n m l
+      ↔ (((x : Notice) → List·Memᴰ x l → (m < x .number) × (unfit n (x .target) ≡ false))
+      × ((i j : ℕ) → i < j → j < length l → getD l i d .number < getD l j d .number))
+  unfolding Filed
+  filed-exactly d m l = ((λ f. ((λ x h. (all-above m l x f h, all-fit m l x f h)), rising m l f)), (λ w. back m l (w .0) (w .1)))
+    where
+      rising : (m : ℕ) (l : List Notice) → Filed n m l → (i j : ℕ) → i < j → j < length l → getD l i d .number < getD l j d .number
+      rising m [] f i j h k = absurd (omega arith)
+      rising m (y ∷ ys) f i zero h k = absurd (omega arith)
+      rising m (y ∷ ys) f zero (suc j) h k = all-above (y .number) ys (getD ys j d) (f .2) (at-place d ys j (omega arith))
+      rising m (y ∷ ys) f (suc i) (suc j) h k = rising (y .number) ys (f .2) i j (omega arith) (omega arith)
+
+      back : (m : ℕ) (l : List Notice) → ((x : Notice) → List·Memᴰ x l → (m < x .number) × (unfit n (x .target) ≡ false))
+          → ((i j : ℕ) → i < j → j < length l → getD l i d .number < getD l j d .number) → Filed n m l
+      back m [] each r = tt
+      back m (y ∷ ys) each r =
+          let w = each y (List·Memᴰ·head refl) in (
+            w .0,
+            w .1,
+            back (y .number) ys (λ x h.
+                let p = place-of x d ys h in
+                let g = r 0 (suc (p .0)) (omega arith) (omega (arith, p .1)) in
+                (rw (p .2) at g, each x (List·Memᴰ·tail h) .1)) (λ i j h k. r (suc i) (suc j) (omega arith) (omega arith)),
+          )
 
   -- no two notices of the list have one number
   pub one-number : (m : ℕ) (l : List Notice) (x y : Notice) → Filed n m l → List·Memᴰ x l → List·Memᴰ y l → x .number ≡ y .number → x ≡ y

@@ -4,7 +4,8 @@ use Prim.Native.Nat.{ℕ}
 use Rattle.notices.specs.declared.Notice.{Notice}
 use Rattle.notices.specs.Layout.{filing}
 
--- "ten bytes each as filing actions"
+-- "ten bytes each as filing actions": row i is the filing action of notice i (`row-at`), and nothing follows the last
+-- (`length-rows`, both in proofs/Listings)
 unfoldable pub rows : List Notice → List ℕ
 rows [] = []
 rows (x ∷ xs) = filing x ++ rows xs
