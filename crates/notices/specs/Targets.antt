@@ -26,9 +26,9 @@ Input n i w j c = ((c ≡ 0) × (j ≡ w)) ⊎ (((c ≡ 1) × (j ≡ lands n i 2
 -- Whether a target names the link of code c that leaves switch j at stage i of a fabric of n stages.
 -- Links: "stage 0 to n-1, switch, and a set". `links-names` says it with equations.
 -- Switch: "It stops the switch's input links", those that land on it from the stage before its column. `switch-names-inputs`
--- says that they are 01's three, and `column-0-names-none` that column 0 has none.
+-- says that they are 01's three, `switch-names-before` that none is of another stage, and `column-0-names-none` that column 0 has none.
 -- Pattern: "It names every switch whose bits under the mask equal the value." `pattern-names-exactly` says it bit by bit.
--- All four are in proofs/Named.
+-- All five are in proofs/Named.
 abbrev pub names : ℕ → Target → ℕ → ℕ → ℕ → Bool
 names n (Links stage switch set) i j c = eqb i stage && eqb j switch && setHas set c
 names n (Switch column switch) i j c = eqb (i + 1) column && eqb (lands n i c j) switch
