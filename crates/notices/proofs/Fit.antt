@@ -1,6 +1,7 @@
 -- What filing asks of a target, in document 01's own terms: 4, 5 and 6 of each kind, each exactly where its line holds.
 use mathlib.Core.Path.{_≡_, refl, sym, ap, _∙_}
 use mathlib.Core.Bool.{Bool, true, false, not, _||_}
+use mathlib.Core.List.{[], _∷_}
 use mathlib.Core.Logic.{_↔_}
 use Prim.Native.Nat.{ℕ, zero, suc, _+_, _*_, _/_, _%_, _^_, _≤_, _<_}
 use native.Mathlib.Nat.{div-div-eq-div-mul, pow-suc}
@@ -9,7 +10,7 @@ use native.Mathlib.Omega.{arith}
 use borrow.Author.Tests.{lt-ltb, le-ltb, lt-leb, ltb-false, leb-false, eqb-true, not-false}
 use lib.Dec.{eqb}
 use lib.Bits.{bitAnd}
-use lib.Count.{ones, ones-step}
+use lib.Count.{ones, onesIn, ones-step}
 use Rattle.table.proofs.Checks.{neither, neither-of, equal}
 use Rattle.table.specs.Checks.{_below_, _notBelow_}
 use Rattle.fabric.specs.Labels.{size, bit}
@@ -224,3 +225,10 @@ pattern-fit n stage value mask s = (
     three : (unfit n (Pattern stage value mask s) ≡ false)
         ↔ ((outsideFabric n (Pattern stage value mask s) ≡ false) × (badField n (Pattern stage value mask s) ≡ false) × (tooWide (Pattern stage value mask s) ≡ false))
     three = all-pass n (Pattern stage value mask s)
+
+-- the filings of 01's example, n = 3: three targets that are accepted, and one that is refused with 6
+pub example-targets :
+    unfit 3 (Links 0 1 4) ∷ unfit 3 (Pattern 0 1 3 4) ∷ unfit 3 (Switch 1 2) ∷ tooWide (Pattern 0 1 1 7) ∷ []
+    ≡ false ∷ false ∷ false ∷ true ∷ []
+unfolding ones onesIn
+example-targets = refl

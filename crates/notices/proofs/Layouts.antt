@@ -6,7 +6,7 @@ use native.Mathlib.Omega.{arith}
 use lib.ListN.{length, getD}
 use Rattle.notices.specs.declared.Notice.{Notice}
 use Rattle.notices.specs.declared.Target.the-variants.{Links, Switch, Pattern}
-use Rattle.notices.specs.Layout.{actionBytes, filingOf, filing}
+use Rattle.notices.specs.Layout.{actionBytes, filing}
 
 -- "Numbers are big-endian.": a number of 16 bits from place i on
 pub record Word (bytes : List ℕ) (i x : ℕ) : Type 0 where
@@ -38,15 +38,15 @@ action-laid action number kind stage switch mask s =
     }
 
 -- "Action 1 files; the kind is the target's number above"; "kind 1: mask zero"
-pub links-laid : (k stage switch s : ℕ) → Laid 1 k 1 stage switch 0 s (filingOf k (Links stage switch s))
+pub links-laid : (k stage switch s : ℕ) → Laid 1 k 1 stage switch 0 s (filing (record { number = k; target = Links stage switch s }))
 links-laid k stage switch s = action-laid 1 k 1 stage switch 0 s
 
 -- "kind 2: stage holds the column, mask and set zero"
-pub switch-laid : (k column switch : ℕ) → Laid 1 k 2 column switch 0 0 (filingOf k (Switch column switch))
+pub switch-laid : (k column switch : ℕ) → Laid 1 k 2 column switch 0 0 (filing (record { number = k; target = Switch column switch }))
 switch-laid k column switch = action-laid 1 k 2 column switch 0 0
 
 -- "kind 3: switch holds the value"
-pub pattern-laid : (k stage value mask s : ℕ) → Laid 1 k 3 stage value mask s (filingOf k (Pattern stage value mask s))
+pub pattern-laid : (k stage value mask s : ℕ) → Laid 1 k 3 stage value mask s (filing (record { number = k; target = Pattern stage value mask s }))
 pattern-laid k stage value mask s = action-laid 1 k 3 stage value mask s
 
 -- three of 01's example, and one whose numbers need both bytes
