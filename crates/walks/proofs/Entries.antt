@@ -1,24 +1,47 @@
 -- Theorems over walk: what its answers say, and that its promise leaves no second answer.
 use mathlib.Core.Path.{_≡_, refl, ap, subst}
+use mathlib.Core.Bool.{false}
 use mathlib.Core.List.{List, [], _∷_}
 use mathlib.Core.Logic.{⊎-elim, _↔_}
-use Prim.Native.Nat.{ℕ, _<_}
-use native.Mathlib.Decide.{decLt}
+use Prim.Native.Nat.{ℕ, _≤_, _<_}
+use native.Mathlib.Decide.{ℕ-discrete, decLt}
 use native.Mathlib.Omega.{arith}
-use borrow.Author.Tests.{leb-false}
+use borrow.Author.Tests.{lt-leb, leb-false}
+use lib.ListN.{getD}
 use Rattle.table.specs.Numbers.{numberOf}
-use Rattle.table.specs.Reply.{Reply, refused}
-use Rattle.table.specs.Checks.{Passed}
-use Rattle.table.proofs.Numbers.{number-tells, below-seventeen}
+use Rattle.table.specs.Reply.{Reply, refused, Numbered}
+use Rattle.table.specs.Checks.{Passed, Passed.none, Passed.passes, _when_, numbers}
+use Rattle.table.proofs.Numbers.{number-tells, above-zero, below-seventeen}
 use Rattle.table.proofs.Checks.{given-or-passed, passed-nth, zero-one}
 use Rattle.fabric.specs.Labels.{size}
-use Rattle.scheme.specs.Tags.{stepsOf}
+use Rattle.fabric.specs.Walks.{walked, switchAt}
+use Rattle.scheme.specs.Tags.{tags, destination, stepsOf}
 use Rattle.scheme.proofs.Steps.{steps-of-tag, tag-arrives}
 use Rattle.book.specs.declared.Book.{Book}
 use Rattle.paths.specs.Clear.{Rule, Clear}
 use Rattle.walks.specs.declared.Ended.{Ended}
-use Rattle.book.specs.Standing.{stopsOf}
+use Rattle.book.specs.Standing.{stopsOf, unsound}
 use Rattle.walks.specs.Entries.{walkSays, walkChecks, FirstStopped, Walked, Walks}
+
+-- "walk (book, source, tag): 16, 10, 12", the checks before the walk
+pub walk-order : (b : Book) (s tag : ℕ) → numbers (walkChecks b s tag) ≡ 16 ∷ 10 ∷ 12 ∷ []
+walk-order b s tag = refl
+
+-- 10: the source is not below N; 12: the tag is not below 2^(2n)
+pub walk-lets-pass : (b : Book) (s tag : ℕ) → Passed (walkChecks b s tag) ↔ ((unsound b ≡ false) × (s < size (b .n)) × (tag < tags (b .n)))
+walk-lets-pass b s tag = (
+  (λ p.
+      let ok : (k : ℕ) → getD (walkChecks b s tag) k (0 when false) .holds ≡ false = λ k. passed-nth (walkChecks b s tag) k p in
+      (ok 0, leb-false (size (b .n)) s (ok 1), leb-false (tags (b .n)) tag (ok 2))),
+  (λ w. passes (w .0) (passes (lt-leb (size (b .n)) s (w .1)) (passes (lt-leb (tags (b .n)) tag (w .2)) none))),
+)
+
+-- every refusal comes with a number of the table
+pub ended-numbered : (a : Ended) → Numbered (walkSays a)
+ended-numbered Ended.Clear = tt
+ended-numbered (Ended.Stopped i) = omega arith
+ended-numbered Ended.Astray = omega arith
+ended-numbered (Ended.Refused r) = above-zero r
 
 -- answers that say one number alone are one answer
 pub ended-tells : (a b : Ended) (k : ℕ) → walkSays a ≡ refused k → walkSays b ≡ refused k → a ≡ b
@@ -42,6 +65,22 @@ module _ (n : ℕ) (stops : Rule) where
       go (yes h) d = absurd (p .stopped (q .before i h))
       go (no h) (yes g) = absurd (q .stopped (p .before j g))
       go (no h) (no g) = omega arith
+
+  -- "the first stage whose link is stopped": it is stopped there, and at no stage below
+  pub first-stopped-least : (s : ℕ) (cs : List ℕ) (i k : ℕ) → FirstStopped n stops s cs i → (stops k (switchAt n s cs k) (getD cs k 0) ≡ 0 → ⊥) → i ≤ k
+  first-stopped-least s cs i k p held = go (decLt k i)
+    where
+      go : Dec (k < i) → i ≤ k
+      go (yes h) = absurd (held (p .before k h))
+      go (no h) = omega arith
+
+  pub least-stopped-first : (s : ℕ) (cs : List ℕ) (i : ℕ) → i < n → (stops i (switchAt n s cs i) (getD cs i 0) ≡ 0 → ⊥)
+      → ((k : ℕ) → (stops k (switchAt n s cs k) (getD cs k 0) ≡ 0 → ⊥) → i ≤ k) → FirstStopped n stops s cs i
+  least-stopped-first s cs i inside held least = record { stage = inside; stopped = held; before = λ k h. clear k h (ℕ-discrete (stops k (switchAt n s cs k) (getD cs k 0)) 0) }
+    where
+      clear : (k : ℕ) → k < i → Dec (stops k (switchAt n s cs k) (getD cs k 0) ≡ 0) → stops k (switchAt n s cs k) (getD cs k 0) ≡ 0
+      clear k h (yes e) = e
+      clear k h (no e) = let l = least k e in absurd (omega arith)
 
   not-both : (s tag i : ℕ) → FirstStopped n stops s (stepsOf n s tag) i → Clear n stops s (stepsOf n s tag) → ⊥
   not-both s tag i p clear = let l = steps-of-tag n s tag .stages in let h = p .stage in p .stopped (clear i (omega arith))
@@ -84,12 +123,34 @@ module _ (b : Book) (s tag : ℕ) (passed : Passed (walkChecks b s tag)) (a : En
       told Ended.Astray w e = absurd (zero-one cc)
       told (Ended.Refused r) w e = absurd w
 
+  -- "otherwise clear": the walk met no stopped link and ends at its tag's destination
+  pub clear-exactly : (walkSays a ≡ Reply.accepted []) ↔ (Clear (b .n) (stopsOf b) s (stepsOf (b .n) s tag) × (walked (b .n) 0 s (stepsOf (b .n) s tag) ≡ destination (b .n) tag))
+  clear-exactly = (
+    told a (answers .walks passed),
+    λ w. ap walkSays (walked-once (b .n) (stopsOf b) s tag a Ended.Clear (answers .walks passed) w),
+  )
+    where
+      told : (x : Ended) → Walked (b .n) (stopsOf b) s tag x → walkSays x ≡ Reply.accepted []
+          → Clear (b .n) (stopsOf b) s (stepsOf (b .n) s tag) × (walked (b .n) 0 s (stepsOf (b .n) s tag) ≡ destination (b .n) tag)
+      told Ended.Clear w e = w
+      told (Ended.Stopped j) w e = absurd (zero-one cc)
+      told Ended.Astray w e = absurd (zero-one cc)
+      told (Ended.Refused r) w e = absurd w
+
+  -- 17: "a walk ended away from its tag's destination"
+  pub seventeen-exactly : (walkSays a ≡ refused 17) ↔ (Clear (b .n) (stopsOf b) s (stepsOf (b .n) s tag) × (walked (b .n) 0 s (stepsOf (b .n) s tag) ≡ destination (b .n) tag → ⊥))
+  seventeen-exactly = (
+    told a (answers .walks passed),
+    λ w. ap walkSays (walked-once (b .n) (stopsOf b) s tag a Ended.Astray (answers .walks passed) w),
+  )
+    where
+      told : (x : Ended) → Walked (b .n) (stopsOf b) s tag x → walkSays x ≡ refused 17
+          → Clear (b .n) (stopsOf b) s (stepsOf (b .n) s tag) × (walked (b .n) 0 s (stepsOf (b .n) s tag) ≡ destination (b .n) tag → ⊥)
+      told Ended.Clear w e = absurd (zero-one cc)
+      told (Ended.Stopped j) w e = absurd (zero-one cc)
+      told Ended.Astray w e = w
+      told (Ended.Refused r) w e = absurd w
+
   -- 17 is never given: "a walk ended away from its tag's destination", and none does (document 000, theorem 3.1)
   pub seventeen-never : walkSays a ≡ refused 17 → ⊥
-  seventeen-never = told a (answers .walks passed)
-    where
-      told : (x : Ended) → Walked (b .n) (stopsOf b) s tag x → walkSays x ≡ refused 17 → ⊥
-      told Ended.Clear w e = zero-one cc
-      told (Ended.Stopped j) w e = zero-one cc
-      told Ended.Astray w e = w .1 (tag-arrives (b .n) s tag (leb-false (size (b .n)) s (passed-nth (walkChecks b s tag) 1 passed)))
-      told (Ended.Refused r) w e = absurd w
+  seventeen-never e = seventeen-exactly .0 e .1 (tag-arrives (b .n) s tag (walk-lets-pass b s tag .0 passed .1))

@@ -14,18 +14,19 @@ use Rattle.book.specs.declared.Book.{Book}
 use Rattle.book.specs.Standing.{stopsOf, unsound}
 use Rattle.walks.specs.declared.Ended.{Ended}
 
--- the number and values of each answer: 11 comes with a stage
+-- The number and values of each answer: 11 comes with a stage. `clear-exactly`, `eleven-exactly` and `seventeen-exactly` (proofs/Entries.antt)
+-- say when each is given, past the checks; `ended-numbered` that no number is 0.
 abbrev pub walkSays : Ended → Reply
 walkSays Ended.Clear = Reply.accepted []
 walkSays (Ended.Stopped i) = Reply.refusedWith 11 (i ∷ [])
 walkSays Ended.Astray = refused 17
 walkSays (Ended.Refused r) = refused (numberOf r)
 
--- "walk (book, source, tag): 16, 10, 12", and then
+-- "walk (book, source, tag): 16, 10, 12", and then. `walk-order` reads the numbers off, `walk-lets-pass` says what passes.
 abbrev pub walkChecks : Book → ℕ → ℕ → List Check
 walkChecks b s tag = (16 when unsound b) ∷ (10 when s notBelow size (b .n)) ∷ (12 when tag notBelow tags (b .n)) ∷ []
 
--- "the first stage whose link is stopped"
+-- "the first stage whose link is stopped": `first-stopped-least` and `least-stopped-first` say that it is the least such stage
 pub record FirstStopped (n : ℕ) (stops : Rule) (s : ℕ) (cs : List ℕ) (i : ℕ) : Type 0 where
   pub stage : i < n
   pub stopped : stops i (switchAt n s cs i) (getD cs i 0) ≡ 0 → ⊥
@@ -38,6 +39,7 @@ Walked n stops s tag Ended.Astray = Clear n stops s (stepsOf n s tag) × (walked
 Walked n stops s tag Ended.Clear = Clear n stops s (stepsOf n s tag) × (walked n 0 s (stepsOf n s tag) ≡ destination n tag)
 Walked n stops s tag (Ended.Refused r) = ⊥
 
+-- `walk-once`: no second answer
 pub record Walks (b : Book) (s tag : ℕ) (answer : Ended) : Type 0 where
   pub refuses : (k : ℕ) → Given k (walkChecks b s tag) → walkSays answer ≡ refused k
   pub walks : Passed (walkChecks b s tag) → Walked (b .n) (stopsOf b) s tag answer
