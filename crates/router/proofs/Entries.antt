@@ -1,13 +1,14 @@
 -- Theorems over route: what its answers say, and that its promise leaves no second answer.
-use mathlib.Core.Path.{_≡_, refl, sym, ap₂, subst, _∙_}
+use mathlib.Core.Path.{_≡_, refl, sym, ap, ap₂, subst, _∙_}
 use mathlib.Core.Bool.{Bool, false, _||_}
 use mathlib.Core.List.{List, [], _∷_}
 use mathlib.Core.Logic.{⊎-elim, _↔_}
-use Prim.Native.Nat.{ℕ, suc}
+use Prim.Native.Nat.{ℕ, suc, _<_}
+use borrow.Author.Tests.{lt-leb, leb-false}
 use lib.ListN.{getD}
 use Rattle.table.specs.Reply.{Reply}
-use Rattle.table.specs.Checks.{Given, Passed, Passed.none, _when_, _notBelow_}
-use Rattle.table.proofs.Checks.{given-or-passed}
+use Rattle.table.specs.Checks.{Given, Passed, Passed.none, Passed.passes, _when_, _notBelow_, numbers}
+use Rattle.table.proofs.Checks.{given-or-passed, passed-nth, neither, neither-of, zero-one}
 use Rattle.fabric.specs.Labels.{size}
 use Rattle.fabric.specs.Walks.{switchAt}
 use Rattle.book.specs.declared.Book.{Book}
@@ -17,6 +18,20 @@ use Rattle.crossing.proofs.Once.{found-tells, routed-once, eleven-routed}
 use Rattle.crossing.specs.declared.Found.{Found}
 use Rattle.crossing.specs.Routed.{routeSays, Routed}
 use Rattle.router.specs.Entries.{routeChecks, Routes}
+
+-- "route: 16, 10", the checks before the route
+pub route-order : (b : Book) (s d : ℕ) → numbers (routeChecks b s d) ≡ 16 ∷ 10 ∷ []
+route-order b s d = refl
+
+-- 10: "source or destination not below N"
+pub route-lets-pass : (b : Book) (s d : ℕ) → Passed (routeChecks b s d) ↔ ((unsound b ≡ false) × (s < size (b .n)) × (d < size (b .n)))
+route-lets-pass b s d = (
+  (λ p.
+      let ok : (k : ℕ) → getD (routeChecks b s d) k (0 when false) .holds ≡ false = λ k. passed-nth (routeChecks b s d) k p in
+      let labels = neither (s notBelow size (b .n)) (d notBelow size (b .n)) (ok 1) in
+      (ok 0, leb-false (size (b .n)) s (labels .0), leb-false (size (b .n)) d (labels .1))),
+  (λ w. passes (w .0) (passes (neither-of _ _ (lt-leb (size (b .n)) s (w .1)) (lt-leb (size (b .n)) d (w .2))) none)),
+)
 
 -- no second answer
 pub route-once : (b : Book) (s d : ℕ) (x y : Found) → Routes b s d x → Routes b s d y → x ≡ y
@@ -47,6 +62,19 @@ module _ (b : Book) (s d : ℕ) (passed : Passed (routeChecks b s d)) (a : Found
   -- 11: "no clear path, with the stage"
   pub eleven-exactly : (i : ℕ) → (routeSays a ≡ Reply.refusedWith 11 (i ∷ [])) ↔ (((cs : List ℕ) → ClearPath (b .n) (stopsOf b) s d cs → ⊥) × StageNamed (b .n) (stopsOf b) s d i)
   eleven-exactly i = eleven-routed (b .n) (stopsOf b) s d a (answers .routes passed) i
+
+  -- "The route answer is that path's normal tag": accepted with a tag exactly when it is the normal tag of the first clear path over the
+  -- links that the book stops, which is `Routed` at `Tag`
+  pub tag-exactly : (t : ℕ) → (routeSays a ≡ Reply.accepted (t ∷ [])) ↔ Routed (b .n) (stopsOf b) s d (Found.Tag t)
+  tag-exactly t = (
+    told a (answers .routes passed),
+    λ w. ap routeSays (routed-once (b .n) (stopsOf b) s d a (Found.Tag t) (answers .routes passed) w),
+  )
+    where
+      told : (x : Found) → Routed (b .n) (stopsOf b) s d x → routeSays x ≡ Reply.accepted (t ∷ []) → Routed (b .n) (stopsOf b) s d (Found.Tag t)
+      told (Found.Tag u) w e = let z : t ≡ u = cc in (w .0, w .1, z ∙ w .2)
+      told (Found.None i) w e = absurd (zero-one cc)
+      told (Found.Refused r) w e = absurd w
 
 -- a route depends on a book only through which links are stopped
 module _ (n : ℕ) (s d : ℕ) where

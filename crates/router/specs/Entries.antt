@@ -11,11 +11,12 @@ use Rattle.crossing.specs.Routed.{routeSays, Routed}
 use Rattle.book.specs.declared.Book.{Book}
 use Rattle.book.specs.Standing.{unsound, stopsOf}
 
--- "route: 16, 10", and then
+-- "route: 16, 10", and then. `route-order` (proofs/Entries.antt) reads the numbers off, `route-lets-pass` says what passes.
 abbrev pub routeChecks : Book → ℕ → ℕ → List Check
 routeChecks b s d = (16 when unsound b) ∷ (10 when (s notBelow size (b .n) || d notBelow size (b .n))) ∷ []
 
--- past them, what 01 says of all paths over the links that the book stops
+-- Past them, what 01 says of all paths over the links that the book stops: `tag-exactly` and `eleven-exactly` say when a tag is given and
+-- when 11; `route-once`: no second answer.
 pub record Routes (b : Book) (s d : ℕ) (answer : Found) : Type 0 where
   pub refuses : (k : ℕ) → Given k (routeChecks b s d) → routeSays answer ≡ refused k
   pub routes : Passed (routeChecks b s d) → Routed (b .n) (stopsOf b) s d answer
