@@ -1,15 +1,19 @@
 -- A book that passes the test of 16.
 use mathlib.Core.Path.{_≡_, ap, _∙_}
 use mathlib.Core.Bool.{false, _||_}
-use Prim.Native.Nat.{ℕ, _-_}
+use mathlib.Core.List.{List, [], _∷_}
+use Prim.Native.Nat.{ℕ, zero, suc, _-_, _<_}
+use native.Mathlib.Omega.{arith}
 use borrow.Author.Tests.{ltb-false}
-use lib.ListN.{length, replicate, length-drop}
+use lib.ListN.{length, getD, replicate, length-drop}
+use lib.Seq.{length-take-le, getD-take}
 use Rattle.table.proofs.Checks.{neither}
 use Rattle.table.specs.Checks.{_below_}
 use Rattle.fabric.specs.Labels.{outsideSizes}
 use Rattle.standing.proofs.Filings.{filed-if, unlittered}
 use Rattle.book.specs.declared.Book.{Book}
-use Rattle.standing.specs.Rising.{filler, misfiled, littered}
+use Rattle.notices.specs.declared.Notice.{Notice}
+use Rattle.standing.specs.Rising.{filler, Filed, misfiled, littered}
 use Rattle.book.specs.Standing.{standing, unused, unsound, Sound}
 
 -- what a book that passes the test of 16 is like
@@ -27,3 +31,29 @@ sound-if b n e =
       filed = filed-if (b .n) 0 (standing b) (p .1);
       rest = unlittered (unused b) (o .1) ∙ ap (λ (k : ℕ). replicate k filler) d;
     }
+
+-- the numbers of a list by rising number, by their places
+above-at : (n k : ℕ) (l : List Notice) → Filed n k l → (j : ℕ) → j < length l → k < getD l j filler .number
+unfolding Filed
+above-at n k [] f j h = absurd (omega arith)
+above-at n k (x ∷ xs) f zero h = f .0
+above-at n k (x ∷ xs) f (suc j) h = let g = f .0 in let r = above-at n (x .number) xs (f .2) j (omega arith) in omega arith
+
+rising-at : (n k : ℕ) (l : List Notice) → Filed n k l → (i j : ℕ) → i < j → j < length l → getD l i filler .number < getD l j filler .number
+unfolding Filed
+rising-at n k [] f i j h g = absurd (omega arith)
+rising-at n k (x ∷ xs) f i zero h g = absurd (omega arith)
+rising-at n k (x ∷ xs) f zero (suc j) h g = above-at n (x .number) xs (f .2) j (omega arith)
+rising-at n k (x ∷ xs) f (suc i) (suc j) h g = rising-at n (x .number) xs (f .2) i j (omega arith) (omega arith)
+
+-- "by rising number": in a book that passes, of two notices that stand the one at the later place has the higher number
+pub listed-rising : (b : Book) → length (b .notices) ≡ 48 → unsound b ≡ false
+    → (i j : ℕ) → i < j → j < b .count → getD (b .notices) i filler .number < getD (b .notices) j filler .number
+listed-rising b n e i j h k =
+    let s = sound-if b n e in
+    let l = s .fits in
+    let t = length-take-le (b .count) (b .notices) (omega arith) in
+    let r = rising-at (b .n) 0 (standing b) (s .filed) i j h (omega arith) in
+    let p = ap (λ (x : Notice). x .number) (getD-take (b .count) (b .notices) i filler (omega arith)) in
+    let q = ap (λ (x : Notice). x .number) (getD-take (b .count) (b .notices) j filler k) in
+    omega arith

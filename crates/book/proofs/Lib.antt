@@ -4,7 +4,10 @@ pub mod Placing
 pub mod Answers
 -- what stops a link
 pub mod Stoppers
+-- what the entries check, say and leave
+pub mod Entries
 -- number 16 exactly, demand 3, and no second answer
+pub mod Runs
 pub mod Changes
 pub mod Reach
 pub mod Since

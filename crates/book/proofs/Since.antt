@@ -4,11 +4,12 @@ use mathlib.Core.Path.{_≡_, refl, sym, ap, subst, _∙_}
 use mathlib.Core.Bool.{Bool, true, false, cond}
 use mathlib.Core.List.{List, [], _∷_, _++_, map, List·Memᴰ, List·Memᴰ·head, List·Memᴰ·not-nil}
 use mathlib.Core.Logic.{_⊎_, inl, inr, ⊎-elim, _↔_}
-use Prim.Native.Nat.{ℕ, _<_}
+use Prim.Native.Nat.{ℕ, _≤_, _<_}
 use native.Mathlib.Omega.{arith}
 use native.Mathlib.Decide.{ℕ-discrete}
 use borrow.Author.Tests.{ne-eqb, lt-leb, le-ltb}
 use lib.Dec.{eqb, leb}
+use lib.ListN.{length}
 use Rattle.table.proofs.Checks.{neither-of, passed-accepts}
 use Rattle.table.specs.Reply.{Reply, refused}
 use Rattle.table.specs.Checks.{Passed.none, Passed.passes}
@@ -21,15 +22,12 @@ use Rattle.book.specs.Standing.{standing, bookOf, Stopped, stopper}
 use Rattle.book.specs.Entries.{opened, linkChecks, linkSays, Tests}
 use Rattle.book.specs.Runs.{NamedSince, Change, after, Accepted, run, AllAccepted, NotWithdrawn, StandsSince}
 use Rattle.standing.specs.Rising.{Distinct}
+use Rattle.standing.proofs.Members.{filed-distinct}
+use Rattle.book.proofs.Runs.{run-on}
 use Rattle.book.proofs.Changes.{Good, good-after, filed-stands, stands-on, stood-or-filed}
 use Rattle.book.proofs.Reach.{good-run, good-sound, opened-good, opened-is, any-order}
 use Rattle.book.proofs.Stoppers.{stopper-some}
 use Rattle.book.proofs.Once.{link-tells}
-
-pub run-on : (before later : List Change) (b : Book) → run (before ++ later) b ≡ run later (run before b)
-unfolding run
-run-on [] later b = refl
-run-on (a ∷ rest) later b = run-on rest later (after a b)
 
 module _ (n : ℕ) (x : Notice) where
   stays : (changes : List Change) (b : Book) → Good n b → List·Memᴰ x (standing b) → NotWithdrawn (x .number) changes b → List·Memᴰ x (standing (run changes b))
@@ -92,6 +90,19 @@ stands-exactly n changes x =
       (λ m. ⊎-elim (λ w. absurd (opened-empty n x (w .0))) (λ r. r) (stood-or-since (o .0) x changes (opened n) g m)),
       (λ s. since-stands (o .0) x changes (opened n) g s),
     )
+
+-- the book after a run, and "At most 48 notices stand at once."
+run-good : (n : ℕ) (changes : List Change) → (m : ℕ) × Good m (run changes (opened n))
+run-good n changes = let o = newly-opened n in (o .0, good-run (o .0) changes (opened n) (rw (o .1) (opened-good (o .0))))
+
+pub run-at-most-48 : (n : ℕ) (changes : List Change) → length (standing (run changes (opened n))) ≤ 48
+run-at-most-48 n changes = run-good n changes .1 .fits
+
+-- the notices that were accepted and not withdrawn since, as a list without a notice twice: for every run there is one
+pub since-list : (n : ℕ) (changes : List Change) → (l : List Notice) × Distinct l × ((x : Notice) → List·Memᴰ x l ↔ StandsSince (opened n) changes x)
+since-list n changes =
+    let g = run-good n changes in
+    (standing (run changes (opened n)), filed-distinct (g .0) 0 (standing (run changes (opened n))) (g .1 .filed), stands-exactly n changes)
 
 -- and so it is with what the link test answers
 module _ (n : ℕ) (legal : outsideSizes n ≡ false) (changes : List Change) (i j c : ℕ) (stage : i < n) (label : j < size n) (code : c < 3) (r : Link) where
@@ -167,3 +178,17 @@ same-book n changes l d these = go (outsideSizes n) refl
         let g : Good n (run changes (opened n)) = good-run n changes (opened n) (rw o (opened-good n)) in
         let w = any-order n e (standing (run changes (opened n))) (g .filed) (g .fits) l d within (λ x h. these x .1 (stands-exactly n changes x .0 h)) in
         (ap (run (map Change.file l)) o ∙ w .0 ∙ sym (g .whole), rw o (w .1))
+
+-- So for every run there are notices, none twice, that are those accepted and not withdrawn since; and whoever files them into a new book, in
+-- whatever order, makes the book of the run.
+pub since-filed : (n : ℕ) (changes : List Change)
+    → (l : List Notice) × Distinct l × ((x : Notice) → List·Memᴰ x l ↔ StandsSince (opened n) changes x)
+    × ((k : List Notice) → Distinct k → ((x : Notice) → List·Memᴰ x k ↔ List·Memᴰ x l)
+    → (run (map Change.file k) (opened n) ≡ run changes (opened n)) × AllAccepted (map Change.file k) (opened n))
+since-filed n changes =
+    let w = since-list n changes in (
+      w .0,
+      w .1,
+      w .2,
+      λ k d same. same-book n changes k d (λ x. ((λ h. w .2 x .0 (same x .0 h)), (λ s. same x .1 (w .2 x .1 s)))),
+    )

@@ -1,0 +1,256 @@
+-- What the entries' definitions say: the order of each entry's checks and what passes them, what the answers say, and which book or
+-- memory is left.
+use mathlib.Core.Path.{_≡_, refl, sym, ap, _∙_}
+use mathlib.Core.Bool.{Bool, true, false, cond, not, _||_, true≢false}
+use mathlib.Core.List.{List, [], _∷_, _++_, List·Memᴰ}
+use mathlib.Core.Logic.{_⊎_, inl, inr, _↔_}
+use Prim.Native.Nat.{ℕ, zero, suc, _*_, _≤_, _<_}
+use native.Mathlib.Omega.{arith}
+use native.Mathlib.Decide.{ℕ-discrete}
+use borrow.Author.Tests.{ltb-false, leb-false, eqb-false, not-false, le-ltb, le-leb, lt-leb, eq-eqb, ne-eqb}
+use lib.Dec.{eqb}
+use lib.ListN.{length, take, drop, getD}
+use lib.Seq.{take-at, drop-at}
+use Rattle.table.specs.declared.Refusal.{Refusal}
+use Rattle.table.specs.Numbers.{numberOf}
+use Rattle.table.specs.Reply.{Reply, refused, Numbered}
+use Rattle.table.specs.Checks.{Check, Given, Given.here, Given.later, Passed, Passed.none, Passed.passes, _when_, _below_, _notBelow_, numbers}
+use Rattle.table.proofs.Numbers.{above-zero}
+use Rattle.table.proofs.Checks.{given-refuses, passed-accepts, accepted-passed, refused-given, passed-nth, neither, neither-of}
+use Rattle.fabric.specs.Labels.{size, outsideSizes}
+use Rattle.fabric.specs.Links.{Code}
+use Rattle.notices.specs.declared.Notice.{Notice}
+use Rattle.notices.specs.Targets.{outsideFabric, badField, tooWide, unfit}
+use Rattle.book.specs.declared.Book.{Book}
+use Rattle.book.specs.declared.Kept.{Kept}
+use Rattle.book.specs.declared.Answer.{Answer}
+use Rattle.book.specs.declared.Link.{Link}
+use Rattle.book.specs.declared.Listing.{Listing}
+use Rattle.standing.specs.Rising.{stands, Filed}
+use Rattle.standing.specs.Rows.{rows}
+use Rattle.book.specs.Standing.{standing, bookOf, unsound, Stopped, stopper, stopsOf}
+use Rattle.book.specs.Entries.{answerSays, linkSays, listingSays, HandsBack, openChecks, opened, Opens, fileChecks, Files, withdrawChecks, Withdraws, linkChecks, Tests, listingChecks, Lists}
+use Rattle.standing.proofs.Listings.{length-rows}
+use Rattle.standing.proofs.Members.{stands-member, member-stands}
+use Rattle.book.proofs.Filings.{sound-if}
+use Rattle.book.proofs.Stoppers.{stopper-none, stopper-some}
+
+-- a check that is passed, by its place
+abbrev PassedAt : List Check → ℕ → Type 0
+PassedAt cs k = getD cs k (0 when false) .holds ≡ false
+
+above-none : (k : ℕ) → (k ≡ 0 → ⊥) → 1 ≤ k
+above-none zero h = absurd (h refl)
+above-none (suc k) h = omega arith
+
+-- a number stands where a notice has it
+abbrev pub HasNumber : ℕ → List Notice → Type 0
+HasNumber k l = (y : Notice) × List·Memᴰ y l × (y .number ≡ k)
+
+no-number : (k : ℕ) (l : List Notice) → stands k l ≡ false → HasNumber k l → ⊥
+no-number k l e w = true≢false (sym (ap (λ (m : ℕ). stands m l) (sym (w .2)) ∙ member-stands (w .0) l (w .1)) ∙ e)
+
+number-free : (k : ℕ) (l : List Notice) → (HasNumber k l → ⊥) → stands k l ≡ false
+number-free k l h = go (stands k l) refl
+  where
+    go : (t : Bool) → stands k l ≡ t → stands k l ≡ false
+    go true e = absurd (h (stands-member k l e))
+    go false e = e
+
+number-stands : (k : ℕ) (l : List Notice) → HasNumber k l → stands k l ≡ true
+number-stands k l w = ap (λ (m : ℕ). stands m l) (sym (w .2)) ∙ member-stands (w .0) l (w .1)
+
+-- "open (n): 1"
+pub open-order : (n : ℕ) → numbers (openChecks n) ≡ 1 ∷ []
+open-order n = refl
+
+-- 1: "n outside 1 to 12"
+pub open-lets-pass : (n : ℕ) → Passed (openChecks n) ↔ ((1 ≤ n) × (n ≤ 12))
+open-lets-pass n = (
+  (λ p. let w = neither (n below 1) (12 below n) (passed-nth (openChecks n) 0 p) in (ltb-false n 1 (w .0), ltb-false 12 n (w .1))),
+  (λ w. passes (neither-of _ _ (le-ltb n 1 (w .0)) (le-ltb 12 n (w .1))) none),
+)
+
+module _ (b : Book) (x : Notice) where
+  -- "file: 16, 3, 4, 5, 6, 7, 8."
+  pub file-order : numbers (fileChecks b x) ≡ 16 ∷ 3 ∷ 4 ∷ 5 ∷ 6 ∷ 7 ∷ 8 ∷ []
+  file-order = refl
+
+  -- 3: "notice number 0"; 4, 5 and 6 as a notice's target is judged; 7: "number already stands"; 8: "48 stand already"
+  pub file-lets-pass : Passed (fileChecks b x)
+      ↔ ((unsound b ≡ false) × (1 ≤ x .number) × (outsideFabric (b .n) (x .target) ≡ false) × (badField (b .n) (x .target) ≡ false) × (tooWide (x .target) ≡ false)
+      × (HasNumber (x .number) (standing b) → ⊥) × (length (standing b) < 48))
+  file-lets-pass = (
+    (λ p.
+        let ok : (k : ℕ) → PassedAt (fileChecks b x) k = λ k. passed-nth (fileChecks b x) k p in (
+          ok 0,
+          above-none (x .number) (eqb-false (x .number) 0 (ok 1)),
+          ok 2,
+          ok 3,
+          ok 4,
+          no-number (x .number) (standing b) (ok 5),
+          leb-false 48 (length (standing b)) (ok 6),
+        )),
+    (λ w.
+        let some = w .1 in
+        passes (w .0)
+        (passes (ne-eqb (x .number) 0 (λ e. omega arith))
+        (passes (w .2)
+        (passes (w .3) (passes (w .4) (passes (number-free (x .number) (standing b) (w .5)) (passes (lt-leb 48 (length (standing b)) (w .6)) none))))))),
+  )
+
+  -- past 16, 3, 4, 5 and 6: 7 is given exactly when the number stands, whether 48 stand or fewer; and then 8 exactly when 48 stand
+  module _ (sound : unsound b ≡ false) (some : 1 ≤ x .number) (fit : unfit (b .n) (x .target) ≡ false) where
+    past-six : {k : ℕ} → Given k ((7 when stands (x .number) (standing b)) ∷ (8 when length (standing b) notBelow 48) ∷ []) → Given k (fileChecks b x)
+    past-six g =
+        let u = neither (outsideFabric (b .n) (x .target) || badField (b .n) (x .target)) (tooWide (x .target)) fit in
+        let v = neither (outsideFabric (b .n) (x .target)) (badField (b .n) (x .target)) (u .0) in
+        later sound (later (ne-eqb (x .number) 0 (λ e. omega arith)) (later (v .0) (later (v .1) (later (u .1) g))))
+
+    pub seven-though-full : HasNumber (x .number) (standing b) → Given 7 (fileChecks b x)
+    seven-though-full w = past-six (here (number-stands (x .number) (standing b) w) refl)
+
+    pub eight-when-full : (HasNumber (x .number) (standing b) → ⊥) → 48 ≤ length (standing b) → Given 8 (fileChecks b x)
+    eight-when-full new full = past-six (later (number-free (x .number) (standing b) new) (here (le-leb 48 (length (standing b)) full) refl))
+
+module _ (b : Book) (k : ℕ) where
+  -- "withdraw: 16, 3, 9."
+  pub withdraw-order : numbers (withdrawChecks b k) ≡ 16 ∷ 3 ∷ 9 ∷ []
+  withdraw-order = refl
+
+  -- 9: "number does not stand"
+  pub withdraw-lets-pass : Passed (withdrawChecks b k) ↔ ((unsound b ≡ false) × (1 ≤ k) × HasNumber k (standing b))
+  withdraw-lets-pass = (
+    (λ p.
+        let ok : (j : ℕ) → PassedAt (withdrawChecks b k) j = λ j. passed-nth (withdrawChecks b k) j p in
+        (ok 0, above-none k (eqb-false k 0 (ok 1)), stands-member k (standing b) (not-false (stands k (standing b)) (ok 2)))),
+    (λ w. let some = w .1 in passes (w .0) (passes (ne-eqb k 0 (λ e. omega arith)) (passes (ap not (number-stands k (standing b) (w .2))) none))),
+  )
+
+module _ (b : Book) (i j c : ℕ) where
+  -- "link stopped or not: 16, 4, 12."
+  pub link-order : numbers (linkChecks b i j c) ≡ 16 ∷ 4 ∷ 12 ∷ []
+  link-order = refl
+
+  -- 4: "stage, column or switch outside the fabric"; 12: "a code above 2"
+  pub link-lets-pass : Passed (linkChecks b i j c) ↔ ((unsound b ≡ false) × (i < b .n) × (j < size (b .n)) × Code c)
+  link-lets-pass = (
+    (λ p.
+        let ok : (k : ℕ) → PassedAt (linkChecks b i j c) k = λ k. passed-nth (linkChecks b i j c) k p in
+        let w = neither (i notBelow b .n) (j notBelow size (b .n)) (ok 1) in
+        let low = ltb-false 2 c (ok 2) in
+        (ok 0, leb-false (b .n) i (w .0), leb-false (size (b .n)) j (w .1), omega arith)),
+    (λ w.
+        let low = w .3 in
+        passes (w .0) (passes (neither-of _ _ (lt-leb (b .n) i (w .1)) (lt-leb (size (b .n)) j (w .2))) (passes (le-ltb 2 c (omega arith)) none))),
+  )
+
+module _ (b : Book) (memory : List ℕ) where
+  -- "listing: 16, 13."
+  pub listing-order : numbers (listingChecks b memory) ≡ 16 ∷ 13 ∷ []
+  listing-order = refl
+
+  -- 13: "lent memory too short", shorter than ten bytes for each notice that stands
+  pub listing-lets-pass : Passed (listingChecks b memory) ↔ ((unsound b ≡ false) × (10 * length (standing b) ≤ length memory))
+  listing-lets-pass =
+      let r = length-rows (standing b) in (
+        (λ p.
+            let ok : (k : ℕ) → PassedAt (listingChecks b memory) k = λ k. passed-nth (listingChecks b memory) k p in
+            let h = ltb-false (length memory) (length (rows (standing b))) (ok 1) in
+            (ok 0, omega arith)),
+        (λ w. let h = w .1 in passes (w .0) (passes (le-ltb (length memory) (length (rows (standing b))) (omega arith)) none)),
+      )
+
+-- every refusal comes with a number of the table
+pub answer-numbered : (a : Answer) → Numbered (answerSays a)
+answer-numbered Answer.Done = tt
+answer-numbered (Answer.Refused why) = above-zero why
+
+pub link-numbered : (a : Link) → Numbered (linkSays a)
+link-numbered Link.Clear = tt
+link-numbered Link.Stopped = tt
+link-numbered (Link.Refused why) = above-zero why
+
+pub listing-numbered : (a : Listing) → Numbered (listingSays a)
+listing-numbered (Listing.Listed count) = tt
+listing-numbered (Listing.Refused why) = above-zero why
+
+-- "Each hands the book back with its answer."
+module _ (checks : List Check) (given made : Book) (r : Kept) (kept : HandsBack checks given made r) where
+  -- accepted exactly when every check is passed, and then with the book that the change makes
+  pub done-exactly : (answerSays (r .answer) ≡ Reply.accepted []) ↔ Passed checks
+  done-exactly = ((λ e. accepted-passed checks [] [] (sym e ∙ kept .says)), (λ p. kept .says ∙ passed-accepts refused (Reply.accepted []) checks p))
+
+  pub done-hands-back : r .answer ≡ Answer.Done → r .book ≡ made
+  done-hands-back e = kept .leaves ∙ passed-accepts (λ k. given) made checks (done-exactly .0 (ap answerSays e))
+
+  -- refused with a number that the checks give, and then with the book that is known beforehand
+  pub refused-by : (why : Refusal) → r .answer ≡ Answer.Refused why → Given (numberOf why) checks
+  refused-by why e = refused-given checks [] (numberOf why) (sym (ap answerSays e) ∙ kept .says)
+
+  pub refused-hands-back : (why : Refusal) → r .answer ≡ Answer.Refused why → r .book ≡ given
+  refused-hands-back why e = kept .leaves ∙ given-refuses (λ k. given) made (numberOf why) checks (refused-by why e)
+
+-- "a change that was refused hands the book back as given"
+pub refused-filing-keeps : (b : Book) (x : Notice) (r : Kept) (why : Refusal) → Files b x r → r .answer ≡ Answer.Refused why → r .book ≡ b
+refused-filing-keeps b x r why p e = refused-hands-back _ _ _ r p why e
+
+pub refused-withdrawing-keeps : (b : Book) (k : ℕ) (r : Kept) (why : Refusal) → Withdraws b k r → r .answer ≡ Answer.Refused why → r .book ≡ b
+refused-withdrawing-keeps b k r why p e = refused-hands-back _ _ _ r p why e
+
+-- "handing back a book of size 0 with no notices"
+pub refused-opening-is-empty : (n : ℕ) (r : Kept) (why : Refusal) → Opens n r → r .answer ≡ Answer.Refused why → (r .book .n ≡ 0) × (standing (r .book) ≡ [])
+refused-opening-is-empty n r why p e = let k = refused-hands-back _ _ _ r p why e in (ap (λ (b : Book). b .n) k, ap standing k)
+
+-- "which every entry over a book answers with 16"
+pub refused-opening-sixteen : (n : ℕ) (x : Notice) (k i j c : ℕ) (memory : List ℕ) → outsideSizes n ≡ true
+    → Given 16 (fileChecks (opened n) x) × Given 16 (withdrawChecks (opened n) k) × Given 16 (linkChecks (opened n) i j c) × Given 16 (listingChecks (opened n) memory)
+refused-opening-sixteen n x k i j c memory size =
+    let u : unsound (opened n) ≡ true = rw size in
+    (here u refl, here u refl, here u refl, here u refl)
+
+-- "otherwise an empty book of size n"
+pub opening-is-empty : (n : ℕ) (r : Kept) → Opens n r → r .answer ≡ Answer.Done → (r .book .n ≡ n) × (standing (r .book) ≡ [])
+opening-is-empty n r p e = let k = done-hands-back _ _ _ r p e in (ap (λ (b : Book). b .n) k, ap standing k)
+
+-- which links a book stops: those that a standing notice names
+module _ (b : Book) (places : length (b .notices) ≡ 48) (i j c : ℕ) where
+  pub stops-exactly : unsound b ≡ false → (stopsOf b i j c ≡ 0) ↔ (Stopped (b .n) (standing b) i j c → ⊥)
+  stops-exactly sound = stopper-none (b .n) i j c (standing b) (sound-if b places sound .filed)
+
+  -- "link stopped or not": it says 1 where a standing notice names the link, and 0 otherwise
+  pub link-says-exactly : (r : Link) → Passed (linkChecks b i j c) → Tests b i j c r
+      → ((linkSays r ≡ Reply.accepted (0 ∷ [])) × (Stopped (b .n) (standing b) i j c → ⊥)) ⊎ ((linkSays r ≡ Reply.accepted (1 ∷ [])) × Stopped (b .n) (standing b) i j c)
+  link-says-exactly r passed t = go (ℕ-discrete (stopper (b .n) (standing b) i j c) 0)
+    where
+      filed : Filed (b .n) 0 (standing b)
+      filed = sound-if b places (link-lets-pass b i j c .0 passed .0) .filed
+
+      says : linkSays r ≡ Reply.accepted (cond (eqb (stopper (b .n) (standing b) i j c) 0) 0 1 ∷ [])
+      says = t .says ∙ passed-accepts refused (Reply.accepted (cond (eqb (stopper (b .n) (standing b) i j c) 0) 0 1 ∷ [])) (linkChecks b i j c) passed
+
+      go : Dec (stopper (b .n) (standing b) i j c ≡ 0)
+          → ((linkSays r ≡ Reply.accepted (0 ∷ [])) × (Stopped (b .n) (standing b) i j c → ⊥)) ⊎ ((linkSays r ≡ Reply.accepted (1 ∷ [])) × Stopped (b .n) (standing b) i j c)
+      go (yes e) = inl (says ∙ ap (λ (s : Bool). Reply.accepted (cond s 0 1 ∷ [])) (eq-eqb (stopper (b .n) (standing b) i j c) 0 e), stopper-none (b .n) i j c (standing b) filed .0 e)
+      go (no e) = inr (says ∙ ap (λ (s : Bool). Reply.accepted (cond s 0 1 ∷ [])) (ne-eqb (stopper (b .n) (standing b) i j c) 0 e), stopper-some (b .n) i j c (standing b) filed .0 e)
+
+-- the listing: "ten bytes each .. at the front; the rest stays. It answers how many there are."
+module _ (b : Book) (before after : List ℕ) (r : Listing) (lists : Lists b before after r) where
+  pub listed-exactly : Passed (listingChecks b before)
+      → (listingSays r ≡ Reply.accepted (length (standing b) ∷ []))
+      × (take (10 * length (standing b)) after ≡ rows (standing b))
+      × (drop (10 * length (standing b)) after ≡ drop (10 * length (standing b)) before)
+  listed-exactly passed =
+      let l = length-rows (standing b) in
+      let left : after ≡ rows (standing b) ++ drop (length (rows (standing b))) before =
+      lists .leaves ∙ passed-accepts (λ k. before) (rows (standing b) ++ drop (length (rows (standing b))) before) (listingChecks b before) passed in (
+        lists .says ∙ passed-accepts refused (Reply.accepted (length (standing b) ∷ [])) (listingChecks b before) passed,
+        ap (take (10 * length (standing b))) left ∙ take-at (rows (standing b)) (drop (length (rows (standing b))) before) (10 * length (standing b)) l,
+        ap (drop (10 * length (standing b))) left ∙ drop-at (rows (standing b)) (drop (length (rows (standing b))) before) (10 * length (standing b)) l
+            ∙ ap (λ (k : ℕ). drop k before) l,
+      )
+
+  pub refused-listing-writes-nothing : (why : Refusal) → r ≡ Listing.Refused why → after ≡ before
+  refused-listing-writes-nothing why e =
+      let g = refused-given (listingChecks b before) (length (standing b) ∷ []) (numberOf why) (sym (ap listingSays e) ∙ lists .says) in
+      lists .leaves ∙ given-refuses (λ k. before) (rows (standing b) ++ drop (length (rows (standing b))) before) (numberOf why) (listingChecks b before) g
