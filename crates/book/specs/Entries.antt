@@ -20,30 +20,34 @@ use Rattle.book.specs.Standing.{standing, bookOf, unsound, stopper}
 use Rattle.standing.specs.Rising.{stands, insert, without}
 use Rattle.standing.specs.Rows.{rows}
 
--- what an answer to open, file and withdraw says
+-- The theorems named here stand in proofs/Entries.antt, unless another file is named. `answer-numbered`, `link-numbered` and `listing-numbered`: no
+-- answer has number 0.
+
+-- what an answer to open, file and withdraw says: `done-exactly`
 abbrev pub answerSays : Answer → Reply
 answerSays Answer.Done = Reply.accepted []
 answerSays (Answer.Refused why) = refused (numberOf why)
 
--- what an answer to the link test says: 0 clear, 1 stopped
+-- what an answer to the link test says: 0 clear, 1 stopped, `link-says-exactly`
 abbrev pub linkSays : Link → Reply
 linkSays Link.Clear = Reply.accepted (0 ∷ [])
 linkSays Link.Stopped = Reply.accepted (1 ∷ [])
 linkSays (Link.Refused why) = refused (numberOf why)
 
--- what an answer to the listing says
+-- what an answer to the listing says: `listed-exactly`
 abbrev pub listingSays : Listing → Reply
 listingSays (Listing.Listed count) = Reply.accepted (count ∷ [])
 listingSays (Listing.Refused why) = refused (numberOf why)
 
 -- "Each hands the book back with its answer." The checks decide both: where one refuses, the book is one that is known
--- beforehand ("a change that was refused hands the book back as given"), otherwise the book that the change makes.
+-- beforehand ("a change that was refused hands the book back as given"), otherwise the book that the change makes: `refused-hands-back`,
+-- `done-hands-back`; `refused-filing-keeps` and `refused-withdrawing-keeps` are 01's sentence.
 pub record HandsBack (checks : List Check) (given made : Book) (r : Kept) : Type 0 where
   pub says : answerSays (r .answer) ≡ checked checks refused (Reply.accepted [])
   pub leaves : r .book ≡ checked checks (λ k. given) made
 
 -- "open (n): 1, handing back a book of size 0 with no notices, which every entry over a book answers with 16; otherwise an
--- empty book of size n."
+-- empty book of size n.": `open-order`, `open-lets-pass`; `refused-opening-is-empty`, `refused-opening-sixteen`, `opening-is-empty`
 abbrev pub openChecks : ℕ → List Check
 openChecks n = (1 when outsideSizes n) ∷ []
 
@@ -53,7 +57,7 @@ opened n = checked (openChecks n) (λ k. bookOf 0 []) (bookOf n [])
 abbrev pub Opens : ℕ → Kept → Type 0
 Opens n r = HandsBack (openChecks n) (bookOf 0 []) (bookOf n []) r
 
--- "file: 16, 3, 4, 5, 6, 7, 8."
+-- "file: 16, 3, 4, 5, 6, 7, 8.": `file-order`, `file-lets-pass`, `seven-though-full`, `eight-when-full`
 abbrev pub fileChecks : Book → Notice → List Check
 fileChecks b x =
     (16 when unsound b)
@@ -65,11 +69,12 @@ fileChecks b x =
     ∷ (8 when length (standing b) notBelow 48)
     ∷ []
 
--- "withdraw: 16, 3, 9."
+-- "withdraw: 16, 3, 9.": `withdraw-order`, `withdraw-lets-pass`
 abbrev pub withdrawChecks : Book → ℕ → List Check
 withdrawChecks b k = (16 when unsound b) ∷ (3 when eqb k 0) ∷ (9 when not (stands k (standing b))) ∷ []
 
--- the book that an accepted filing makes, and an accepted withdrawing
+-- The book that an accepted filing makes, and an accepted withdrawing: `filed-stands`, `stands-on` and `stood-or-filed` (proofs/Changes.antt) say
+-- what stands in it.
 abbrev pub filed : Book → Notice → Book
 filed b x = bookOf (b .n) (insert x (standing b))
 
@@ -82,19 +87,19 @@ Files b x r = HandsBack (fileChecks b x) b (filed b x) r
 abbrev pub Withdraws : Book → ℕ → Kept → Type 0
 Withdraws b k r = HandsBack (withdrawChecks b k) b (withdrawn b k) r
 
--- "link stopped or not: 16, 4, 12."
+-- "link stopped or not: 16, 4, 12.": `link-order`, `link-lets-pass`
 abbrev pub linkChecks : Book → ℕ → ℕ → ℕ → List Check
 linkChecks b i j c = (16 when unsound b) ∷ (4 when (i notBelow b .n || j notBelow size (b .n))) ∷ (12 when 2 below c) ∷ []
 
 pub record Tests (b : Book) (i j c : ℕ) (r : Link) : Type 0 where
   pub says : linkSays r ≡ checked (linkChecks b i j c) refused (Reply.accepted (cond (eqb (stopper (b .n) (standing b) i j c) 0) 0 1 ∷ []))
 
--- "listing: 16, 13.": too short is shorter than the rows, which `length-rows` says are ten bytes each
+-- "listing: 16, 13.": too short is shorter than the rows, ten bytes each; `listing-order`, `listing-lets-pass`
 abbrev pub listingChecks : Book → List ℕ → List Check
 listingChecks b memory = (16 when unsound b) ∷ (13 when length memory below length (rows (standing b))) ∷ []
 
 -- "Standing notices by rising number, ten bytes each as filing actions, at the front; the rest stays. It answers how many
--- there are." `Filed` of a book that passes says that they stand by rising number.
+-- there are.": `listed-exactly`, `refused-listing-writes-nothing`. `listed-rising` (proofs/Filings.antt) says that they stand by rising number.
 pub record Lists (b : Book) (before after : List ℕ) (r : Listing) : Type 0 where
   pub says : listingSays r ≡ checked (listingChecks b before) refused (Reply.accepted (length (standing b) ∷ []))
   pub leaves : after ≡ checked (listingChecks b before) (λ k. before) (rows (standing b) ++ drop (length (rows (standing b))) before)

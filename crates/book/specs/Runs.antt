@@ -10,12 +10,15 @@ use Rattle.notices.specs.Targets.{names}
 use Rattle.book.specs.declared.Book.{Book}
 use Rattle.book.specs.Entries.{openChecks, opened, fileChecks, withdrawChecks, filed, withdrawn}
 
+-- The theorems named here stand in proofs/Runs.antt, unless another file is named.
+
 -- what the desk does to a book, whatever the book answers
 pub data Change : Type 0 where
   file : Notice → Change
   withdraw : ℕ → Change
 
--- the checks of a change, what it answers, and the book that it leaves: those of `Files` and `Withdraws`
+-- the checks of a change, what it answers, and the book that it leaves: those of `Files` and `Withdraws`, `files-change` and
+-- `withdraws-change` (proofs/Changes.antt)
 abbrev pub changeChecks : Change → Book → List Check
 changeChecks (Change.file x) b = fileChecks b x
 changeChecks (Change.withdraw k) b = withdrawChecks b k
@@ -33,16 +36,18 @@ after a b = checked (changeChecks a b) (λ k. b) (changed a b)
 abbrev pub Accepted : Change → Book → Type 0
 Accepted a b = answer a b ≡ Reply.accepted []
 
--- the book after one change and then the others
+-- the book after one change and then the others: `run-none`, `run-one`, `run-on`
 unfoldable pub run : List Change → Book → Book
 run [] b = b
 run (a ∷ rest) b = run rest (after a b)
 
+-- each is accepted, made after those before it: `all-accepted-each`
 unfoldable pub AllAccepted : List Change → Book → Type 0
 AllAccepted [] b = Unit
 AllAccepted (a ∷ rest) b = Accepted a b × AllAccepted rest (after a b)
 
--- a book that an accepted opening and accepted filings and withdrawings produce
+-- A book that an accepted opening and accepted filings and withdrawings produce: `opened-reachable`, `accepted-reachable`, and no others,
+-- `reachable-only`.
 pub record Reachable (b : Book) : Type 0 where
   pub n : ℕ
   pub opens : checked (openChecks n) refused (Reply.accepted []) ≡ Reply.accepted []
@@ -50,12 +55,13 @@ pub record Reachable (b : Book) : Type 0 where
   pub accepts : AllAccepted changes (opened n)
   pub makes : run changes (opened n) ≡ b
 
--- no change of the list, made in its turn from this book on, is an accepted withdrawal of number k
+-- no change of the list, made in its turn from this book on, is an accepted withdrawal of number k: `not-withdrawn-each`
 unfoldable pub NotWithdrawn : ℕ → List Change → Book → Type 0
 NotWithdrawn k [] b = Unit
 NotWithdrawn k (a ∷ rest) b = (a ≡ Change.withdraw k → Accepted a b → ⊥) × NotWithdrawn k rest (after a b)
 
--- in a run from this book on the notice was accepted, and it was not withdrawn since
+-- In a run from this book on the notice was accepted, and it was not withdrawn since. `stands-exactly` (proofs/Since.antt) says that these are the
+-- notices that stand, `since-list` that for every run they are a list.
 pub record StandsSince (b : Book) (changes : List Change) (x : Notice) : Type 0 where
   pub before : List Change
   pub later : List Change
@@ -63,6 +69,7 @@ pub record StandsSince (b : Book) (changes : List Change) (x : Notice) : Type 0 
   pub accepted : Accepted (Change.file x) (run before b)
   pub kept : NotWithdrawn (x .number) later (after (Change.file x) (run before b))
 
--- in a run from an empty book of n stages, some notice names the link that was accepted and not withdrawn since
+-- In a run from an empty book of n stages, some notice names the link that was accepted and not withdrawn since: `link-exactly`
+-- (proofs/Since.antt).
 abbrev pub NamedSince : ℕ → List Change → ℕ → ℕ → ℕ → Type 0
 NamedSince n changes i j c = (x : Notice) × StandsSince (opened n) changes x × (names n (x .target) i j c ≡ true)

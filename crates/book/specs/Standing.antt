@@ -19,16 +19,17 @@ standing b = take (b .count) (b .notices)
 abbrev pub unused : Book → List Notice
 unused b = drop (b .count) (b .notices)
 
--- the book of a fabric of n stages in which the notices of a list stand, "At most 48 notices"
+-- The book of a fabric of n stages in which the notices of a list stand (`standing-of`, proofs/Changes.antt). "At most 48 notices": `run-at-most-48`
+-- (proofs/Since.antt).
 abbrev pub bookOf : ℕ → List Notice → Book
 bookOf n l = record { n = n; count = length l; notices = l ++ replicate (48 - length l) filler }
 
 -- The test behind 16, "a book that an accepted opening, filing and withdrawing cannot produce": `reachable-sound` and
--- `sound-reachable` say that it is that sentence exactly.
+-- `sound-reachable` (proofs/Reach.antt) say that it is that sentence exactly.
 abbrev pub unsound : Book → Bool
 unsound b = outsideSizes (b .n) || 48 below b .count || misfiled (b .n) 0 (standing b) || littered (unused b)
 
--- what holds of a book that passes
+-- what holds of a book that passes: `sound-if` (proofs/Filings.antt)
 pub record Sound (b : Book) : Type 0 where
   pub some : 1 ≤ b .n
   pub few : b .n ≤ 12
@@ -40,13 +41,13 @@ pub record Sound (b : Book) : Type 0 where
 abbrev pub Stopped : ℕ → List Notice → ℕ → ℕ → ℕ → Type 0
 Stopped n l i j c = (x : Notice) × List·Memᴰ x l × (names n (x .target) i j c ≡ true)
 
--- The number of the first notice of the list that names the link, 0 where none does. `stopper-none` and `stopper-some` tie
--- it to `Stopped`, and `stopper-lowest` says that it is the lowest such number among standing notices.
+-- The number of the first notice of the list that names the link, 0 where none does. `stopper-none` and `stopper-some` (proofs/Stoppers.antt)
+-- tie it to `Stopped`, and `stopper-lowest` says that it is the lowest such number among standing notices.
 unfoldable pub stopper : ℕ → List Notice → ℕ → ℕ → ℕ → ℕ
 stopper n [] i j c = 0
 stopper n (x ∷ xs) i j c = cond (names n (x .target) i j c) (x .number) (stopper n xs i j c)
 
--- which links a book stops, and the lowest number that does. `clear-since` of promises says that these are the links that the notices
--- accepted and not withdrawn since name.
+-- Which links a book stops, and the lowest number that does: `stops-exactly` (proofs/Entries.antt). `clear-since` (promises/proofs/Clearness.antt)
+-- says that these are the links that the notices accepted and not withdrawn since name.
 abbrev pub stopsOf : Book → ℕ → ℕ → ℕ → ℕ
 stopsOf b i j c = stopper (b .n) (standing b) i j c
