@@ -50,7 +50,7 @@ loop-again c =
       c .landing .ensures .1,
       refl,
       c .landing .ensures .0 ∙ next-switch (a .book .n) (stopsOf (a .book)) (a .source) (a .tag) (v .i) (v .j) _ (omega arith) (w .3) uses,
-      clear-more (a .book .n) (stopsOf (a .book)) (a .source) (a .tag) (v .i) (v .j) _ (omega arith) (w .3) uses (w .4) (sym (c .before .before .stopper .ensures) ∙ c .before .if2 .left),
+      clear-more (a .book .n) (stopsOf (a .book)) (a .source) (a .tag) (v .i) (v .j) _ (omega arith) (w .3) uses (w .4) (let e = c .before .before .stopper .ensures in let f = c .before .if2 .left in omega arith),
     )
 
 returns : tie.Need-returns Inv-loop μ-loop
@@ -63,7 +63,7 @@ returns-2 : tie.Need-returns-2 Inv-loop μ-loop
 returns-2 c =
     let a = c .before .before .before .before .before .args in
     let v = c .before .before .before .before .loop in
-    stopped-here (a .book .n) (stopsOf (a .book)) (a .source) (a .tag) (v .i) (v .j) _ (omega arith) (v .inv .3) (c .before .before .step-of .ensures .0) (v .inv .4) (λ e. c .if2 .taken (c .before .stopper .ensures ∙ e))
+    stopped-here (a .book .n) (stopsOf (a .book)) (a .source) (a .tag) (v .i) (v .j) _ (omega arith) (v .inv .3) (c .before .before .step-of .ensures .0) (v .inv .4) (λ e. let f = c .before .stopper .ensures in let g = c .if2 .taken in omega arith)
 
 pub along-spec : {M : Type 1} → statement M
 along-spec =

@@ -1,6 +1,7 @@
 -- The checks in 01's order: each refusal knows that its own line holds and no earlier one does; past them all `inserted`
 -- makes the book.
 use mathlib.Core.Path.{_≡_}
+use native.Mathlib.Omega.{arith}
 use borrow.Author.Needs.{needs}
 use borrow.Author.Tests.{ne-eqb}
 use lib.ListN.{length}
@@ -71,11 +72,11 @@ returns-7 c =
     let b = c .before .before .before .before .before .before .before .before .before .before .before .before .before .before .before .args .self in
     let sound = c .before .before .before .before .before .before .before .before .before .before .before .before .before .before .unsound .ensures .1 (c .before .before .before .before .before .before .before .before .before .before .before .before .before .if1 .left) in
     let places : length (b .notices) ≡ 48 = search (needs, length-mapped) in
-    let f = full b sound places (c .before .if7 .taken) in
+    let f = full b sound places (let h = c .before .if7 .taken in omega arith) in
     search (hands-back-refused, refusing) depth 12
 
 inserted-requires : tie.Need-inserted-requires
-inserted-requires c κs = (c .before .before .before .before .before .before .before .before .before .before .before .before .before .unsound .ensures .1 (c .before .before .before .before .before .before .before .before .before .before .before .before .if1 .left), c .if7 .left)
+inserted-requires c κs = let h = c .if7 .left in (c .before .before .before .before .before .before .before .before .before .before .before .before .before .unsound .ensures .1 (c .before .before .before .before .before .before .before .before .before .before .before .before .if1 .left), omega arith)
 
 done-requires : tie.Need-done-requires
 done-requires c κs = search needs
@@ -86,7 +87,7 @@ returns-8 c =
     let b = start .args .self in
     let sound = c .before .before .before .before .before .before .before .before .before .before .before .before .before .before .before .unsound .ensures .1 (c .before .before .before .before .before .before .before .before .before .before .before .before .before .before .if1 .left) in
     let places : length (b .notices) ≡ 48 = search (needs, length-mapped) in
-    let f = not-full b sound places (c .before .before .if7 .left) in
+    let f = not-full b sound places (let h = c .before .before .if7 .left in omega arith) in
     let passed : Passed (fileChecks b (start .args .notice)) =
     passes (by-test (c .before .before .before .before .before .before .before .before .before .before .before .before .before .before .before .unsound .ensures .0) (c .before .before .before .before .before .before .before .before .before .before .before .before .before .before .if1 .left))
     (passes (ne-eqb _ 0 (c .before .before .before .before .before .before .before .before .before .before .before .before .if2 .left))

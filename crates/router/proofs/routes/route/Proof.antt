@@ -1,6 +1,7 @@
 -- 16 is judged in two parts: by size, count and unused places before the pass over the notices, and by the notices in it.
 use mathlib.Core.Path.{_≡_, sym, _∙_}
 use mathlib.Core.Logic.{⊎-elim}
+use native.Mathlib.Omega.{arith}
 use borrow.Author.Tests.{lt-ltb, le-ltb}
 use lib.ListN.{length}
 use Rattle.table.proofs.Checks.{one-of, other-of, neither-of}
@@ -50,7 +51,7 @@ returns-6 : tie.Need-returns-6
 returns-6 c =
     let a = c .before .before .before .before .before .before .before .before .before .before .before .args in
     let places : length (a .book .notices) ≡ 48 = search (needs, length-mapped) in
-    let clean = ⊎-elim (λ w. sym (w .2 .ensures) ∙ w .3 .left) (λ w. full-clean (a .book) places (w .left) (search needs)) (c .before .before .before .before .before .if3 .came) in
+    let clean = ⊎-elim (λ w. sym (w .2 .ensures) ∙ w .3 .left) (λ w. full-clean (a .book) places (let h = w .left in omega arith) (search needs)) (c .before .before .before .before .before .if3 .came) in
     pass-decides (a .book) (a .source) (a .destination) (sym (c .before .before .before .before .before .before .before .before .before .before .outside-sizes .ensures .0) ∙ c .before .before .before .before .before .before .before .before .before .if1 .left) (le-ltb 48 (a .book .count) (c .before .before .before .before .before .before .before .if2 .left)) clean
     (neither-of _ _ (sym (c .before .before .before .before .outside-labels .ensures .0) ∙ c .before .before .before .if5 .left) (sym (c .before .before .outside-labels2 .ensures .0) ∙ c .before .if6 .left)) _
     (c .ahead .ensures .0) (c .ahead .ensures .1)
