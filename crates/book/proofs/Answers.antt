@@ -4,14 +4,14 @@ use mathlib.Core.Bool.{Bool, true, false, cond, not, _||_}
 use mathlib.Core.List.{List, [], _∷_}
 use Prim.Native.Nat.{ℕ, _≤_, _<_}
 use native.Mathlib.Omega.{arith}
-use borrow.Author.Tests.{eq-eqb, ne-eqb, le-leb, lt-leb}
-use lib.Dec.{eqb}
+use borrow.Author.Tests.{eq-eqb, ne-eqb, le-leb, lt-leb, leb-false}
+use lib.Dec.{eqb, leb}
 use lib.ListN.{length}
 use Rattle.table.specs.declared.Refusal.{Refusal}
 use Rattle.table.specs.Numbers.{numberOf}
 use Rattle.table.specs.Reply.{Reply, refused}
 use Rattle.table.specs.Checks.{Check, Given, Passed, _notBelow_}
-use Rattle.table.proofs.Checks.{given-refuses, passed-accepts}
+use Rattle.table.proofs.Checks.{given-refuses, passed-accepts, neither}
 use Rattle.book.specs.declared.Book.{Book}
 use Rattle.book.specs.declared.Kept.{Kept}
 use Rattle.book.specs.declared.Answer.{Answer}
@@ -24,14 +24,14 @@ module _ (checks : List Check) (given made : Book) (r : Kept) where
   pub hands-back-refused : (why : Refusal) → r .book ≡ given → r .answer ≡ Answer.Refused why → Given (numberOf why) checks → HandsBack checks given made r
   hands-back-refused why kept told g =
       record {
-        says = ap answerSays told ∙ sym (given-refuses refused (Reply.accepted []) (numberOf why) checks g);
+        says = ap answerSays told ∙ sym (given-refuses refused _ (numberOf why) checks g);
         leaves = kept ∙ sym (given-refuses (λ k. given) made (numberOf why) checks g);
       }
 
   pub hands-back-done : r .book ≡ made → r .answer ≡ Answer.Done → Passed checks → HandsBack checks given made r
   hands-back-done kept told p =
       record {
-        says = ap answerSays told ∙ sym (passed-accepts refused (Reply.accepted []) checks p);
+        says = ap answerSays told ∙ sym (passed-accepts refused _ checks p);
         leaves = kept ∙ sym (passed-accepts (λ k. given) made checks p);
       }
 
@@ -54,6 +54,13 @@ few-by f e = f e .few
 
 pub fits-by : {made : Bool} {b : Book} → (made ≡ false → Sound b) → made ≡ false → b .count ≤ 48
 fits-by f e = f e .fits
+
+-- where neither stage nor switch is outside
+pub stage-by : (n i : ℕ) (other : Bool) {made : Bool} → made ≡ (leb n i || other) → made ≡ false → i < n
+stage-by n i other e f = leb-false n i (neither (leb n i) other (sym e ∙ f) .0)
+
+pub switch-by : (n i : ℕ) (other : Bool) {made : Bool} {j labels : ℕ} → made ≡ (leb n i || other) → made ≡ false → (other ≡ false → j < labels) → j < labels
+switch-by n i other e f inside = inside (neither (leb n i) other (sym e ∙ f) .1)
 
 module _ (b : Book) (i j c : ℕ) where
   pub link-refused : (why : Refusal) → Given (numberOf why) (linkChecks b i j c) → Tests b i j c (Link.Refused why)

@@ -1,10 +1,7 @@
 -- The checks in 01's order; past them all the link is clear exactly where its stopper is 0.
-use mathlib.Core.Path.{sym, _∙_}
-use borrow.Author.Tests.{leb-false}
 use borrow.Author.Needs.{needs}
-use lib.Dec.{leb}
-use Rattle.table.proofs.Checks.{neither, refusing, accepting}
-use Rattle.book.proofs.Answers.{either-of, link-refused, link-clear, link-stopped}
+use Rattle.table.proofs.Checks.{refusing, accepting}
+use Rattle.book.proofs.Answers.{either-of, few-by, fits-by, stage-by, switch-by, link-refused, link-clear, link-stopped}
 use Rattle.book.proofs.Book.link.Statement.{statement}
 use Rattle.book.proofs.Book.link.Tie as tie
 
@@ -15,7 +12,7 @@ returns : tie.Need-returns
 returns c = search (link-refused, refusing) depth 12
 
 outside-labels-requires : tie.Need-outside-labels-requires
-outside-labels-requires c κs = c .before .unsound .ensures .1 (c .if1 .left) .few
+outside-labels-requires c κs = search (needs, few-by)
 
 either-requires : tie.Need-either-requires
 either-requires c κs = search needs
@@ -27,11 +24,7 @@ returns-3 : tie.Need-returns-3
 returns-3 c = search (link-refused, refusing, either-of) depth 12
 
 stopper-requires : tie.Need-stopper-requires
-stopper-requires c κs =
-    let u = c .before .before .before .before .before .unsound .ensures .1 (c .before .before .before .before .if1 .left) in
-    let o = c .before .before .before .outside-labels in
-    let w = neither (leb (c .before .before .before .before .before .before .args .self .n) (c .before .before .before .before .before .before .args .stage)) (o .result) (sym (c .before .before .either .ensures) ∙ c .before .if2 .left) in
-    (u .fits, u .few, leb-false (c .before .before .before .before .before .before .args .self .n) (c .before .before .before .before .before .before .args .stage) (w .0), o .ensures .1 (w .1), search needs)
+stopper-requires c κs = (search (needs, fits-by), search (needs, few-by), search (needs, stage-by), search (needs, switch-by), search needs)
 
 returns-4 : tie.Need-returns-4
 returns-4 c = search (link-clear, accepting, either-of) depth 12

@@ -1,17 +1,18 @@
 -- The checks in 01's order, which write nothing; past them all `laid` writes the rows at the front.
 use mathlib.Core.Path.{_≡_, refl, sym, ap, _∙_}
-use mathlib.Core.List.{[], _∷_, _++_}
+use mathlib.Core.List.{_++_}
 use Prim.Native.Nat.{_*_}
 use native.Mathlib.Omega.{arith}
 use borrow.Author.Tests.{lt-ltb, le-ltb}
 use borrow.Author.Needs.{needs}
 use lib.ListN.{length, drop}
-use Rattle.table.specs.Reply.{Reply, refused}
+use Rattle.table.specs.Reply.{refused}
 use Rattle.table.specs.Checks.{Given, Passed, Given.here, Given.later, Passed.none, Passed.passes}
 use Rattle.table.proofs.Checks.{given-refuses, passed-accepts}
 use Rattle.book.specs.Standing.{standing}
 use Rattle.standing.specs.Rows.{rows}
-use Rattle.book.specs.Entries.{listingChecks}
+use Rattle.book.specs.declared.Listing.{Listing}
+use Rattle.book.specs.Entries.{listingSays, listingChecks}
 use Rattle.standing.proofs.Arrays.{length-mapped}
 use Rattle.book.proofs.Placing.{length-standing}
 use Rattle.standing.proofs.Listings.{length-rows}
@@ -58,7 +59,7 @@ returns-3 c =
     let r = length-rows (standing b) in
     let p : Passed (listingChecks b m) = passes (sym (c .before .before .before .before .before .before .before .unsound .ensures .0) ∙ c .before .before .before .before .before .before .if1 .left) (passes (le-ltb (length m) (length (rows (standing b))) (omega arith)) none) in
     record {
-      says = sym (passed-accepts refused _ (listingChecks b m) p ∙ ap (λ k. Reply.accepted (k ∷ [])) l);
+      says = sym (passed-accepts refused _ (listingChecks b m) p ∙ ap (λ k. listingSays (Listing.Listed k)) l);
       leaves = c .before .before .laid .ensures ∙ ap (λ k. rows (standing b) ++ drop k m) (ap (λ k. 10 * k) (sym l) ∙ sym r) ∙ sym (passed-accepts (λ k. m) _ (listingChecks b m) p);
     }
 
