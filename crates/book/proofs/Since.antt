@@ -23,7 +23,7 @@ use Rattle.book.specs.Entries.{opened, linkChecks, linkSays, Tests}
 use Rattle.book.specs.Runs.{NamedSince, Change, after, Accepted, run, AllAccepted, NotWithdrawn, StandsSince}
 use Rattle.standing.specs.Rising.{Distinct}
 use Rattle.standing.proofs.Members.{filed-distinct}
-use Rattle.book.proofs.Runs.{run-on}
+pub use Rattle.book.proofs.Runs.{run-on}
 use Rattle.book.proofs.Changes.{Good, good-after, filed-stands, stands-on, stood-or-filed}
 use Rattle.book.proofs.Reach.{good-run, good-sound, opened-good, opened-is, any-order}
 use Rattle.book.proofs.Stoppers.{stopper-some}
