@@ -10,7 +10,13 @@ use borrow.Author.Tests.{lt-ltb, le-ltb}
 use lib.ListN.{length, getD, length-append}
 use Rattle.fabric.specs.Labels.{bit}
 use Rattle.table.specs.Checks.{_below_}
-use Rattle.words.specs.Words.{decimalIn, decimal, bitsFrom, tagBits}
+use Rattle.words.specs.Words.{ascii, decimalIn, decimal, bitsFrom, tagBits}
+
+-- numbers, and the bits of a tag, as 01 writes them
+pub numbers-spelled : decimal 0 ∷ decimal 10 ∷ decimal 4096 ∷ decimal 65535 ∷ tagBits 3 8 ∷ []
+    ≡ ascii "0" ∷ ascii "10" ∷ ascii "4096" ∷ ascii "65535" ∷ ascii "000100" ∷ []
+unfolding decimalIn bitsFrom
+numbers-spelled = refl
 
 -- more digits than there are make no difference
 most-any : (f g x : ℕ) → x < f → x < g → decimalIn f x ≡ decimalIn g x

@@ -11,19 +11,13 @@ use Rattle.table.specs.declared.Refusal.{Refusal}
 use Rattle.table.specs.Numbers.{numberOf}
 use Rattle.table.proofs.Checks.{both-hold}
 use Rattle.fabric.specs.Labels.{bit}
-use Rattle.words.specs.Words.{ascii, decimalIn, decimal, bitsFrom, tagBits, SHEET, FILE, WITHDRAW, ROUTE, ACTION, OK, REFUSED, TAG, NONE, ending, line, refusal}
+use Rattle.words.specs.Words.{ascii, decimal, bitsFrom, tagBits, SHEET, FILE, WITHDRAW, ROUTE, ACTION, OK, REFUSED, TAG, NONE, ending, line, refusal}
 use Rattle.words.proofs.Decimals.{decimal-one, decimal-more}
 
 pub words-spelled :
     SHEET ∷ FILE ∷ WITHDRAW ∷ ROUTE ∷ ACTION ∷ OK ∷ REFUSED ∷ TAG ∷ NONE ∷ []
     ≡ ascii "SHEET" ∷ ascii "FILE" ∷ ascii "WITHDRAW" ∷ ascii "ROUTE" ∷ ascii "ACTION" ∷ ascii "OK" ∷ ascii "REFUSED" ∷ ascii "TAG" ∷ ascii "NONE" ∷ []
 words-spelled = refl
-
--- numbers, "`TAG` with bits 0 to 2n-1 in that order"
-pub numbers-spelled : decimal 0 ∷ decimal 10 ∷ decimal 4096 ∷ decimal 65535 ∷ tagBits 3 8 ∷ []
-    ≡ ascii "0" ∷ ascii "10" ∷ ascii "4096" ∷ ascii "65535" ∷ ascii "000100" ∷ []
-unfolding decimalIn bitsFrom
-numbers-spelled = refl
 
 -- every byte of a text lies in these bounds
 abbrev pub Within : ℕ → ℕ → List ℕ → Type 0
