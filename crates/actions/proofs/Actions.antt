@@ -57,7 +57,7 @@ pub bytes-tell : (a b : Action) → IsAction a → IsAction b → bytesOf a ≡ 
 bytes-tell a b i j e = sym (bytes-named a i) ∙ ap (λ (l : List ℕ). named (fieldsOf l)) e ∙ bytes-named b j
 
 -- an answer is a refusal or an action
-kind-of : (a : Action) → ((why : Refusal) × (a ≡ Action.Refused why)) ⊎ IsAction a
+pub kind-of : (a : Action) → ((why : Refusal) × (a ≡ Action.Refused why)) ⊎ IsAction a
 kind-of (Action.File x) = inr tt
 kind-of (Action.Withdraw k) = inr tt
 kind-of (Action.Route s d) = inr tt
@@ -101,10 +101,11 @@ pub action-has-no-fault : (a : Action) → IsAction a → layoutFault (fieldsOf 
 action-has-no-fault a i = passed-nth (actionChecks (bytesOf a)) 1 (action-passes a i)
 
 -- what is written reads as what was written
+pub reads-its-bytes : (a : Action) → IsAction a → ReadsAction (bytesOf a) a
+reads-its-bytes a i = record { says = action-says a i ∙ sym (passed-accepts refused (accepted (bytesOf a)) (actionChecks (bytesOf a)) (action-passes a i)) }
+
 pub written-is-read : (a b : Action) → IsAction a → ReadsAction (bytesOf a) b → b ≡ a
-written-is-read a b i r =
-    action-once (bytesOf a) b a r
-    (record { says = action-says a i ∙ sym (passed-accepts refused (accepted (bytesOf a)) (actionChecks (bytesOf a)) (action-passes a i)) })
+written-is-read a b i r = action-once (bytesOf a) b a r (reads-its-bytes a i)
 
 -- and what is read was written so
 pub read-is-written : (part : List ℕ) (a : Action) → IsAction a → ReadsAction part a → bytesOf a ≡ part

@@ -4,3 +4,5 @@ pub mod Layouts
 pub mod Promises
 -- no second answer, and what is written is what is read
 pub mod Actions
+-- each answer exactly where 01 gives it
+pub mod Exactly
