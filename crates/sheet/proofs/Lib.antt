@@ -2,3 +2,5 @@
 pub mod Promises
 -- no second answer, and what is written is what is read
 pub mod Sheets
+-- each answer exactly where 01 gives it
+pub mod Exactly

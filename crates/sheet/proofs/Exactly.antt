@@ -1,0 +1,131 @@
+-- What the entries over a sheet answer, said of the sheet's bytes alone.
+use mathlib.Core.Path.{_≡_, refl, sym, ap, _∙_}
+use mathlib.Core.Bool.{Bool, true, false, not, _||_, true≢false}
+use mathlib.Core.Logic.{_⊎_, inl, inr, _↔_}
+use mathlib.Core.List.{List, [], _∷_, _++_}
+use Prim.Native.Nat.{ℕ, _+_, _*_, _≤_, _<_}
+use Prim.Native.Char.{code}
+use native.Mathlib.Decide.{decLt, decLe, ℕ-discrete}
+use native.Mathlib.Omega.{arith}
+use borrow.Author.Tests.{lt-ltb, le-ltb, ltb-false, eqb-true, not-false, leb-false}
+use lib.Dec.{eqb}
+use lib.ListN.{length, take, drop, getD, take-append-drop}
+use lib.Seq.{getD-take, getD-drop}
+use Rattle.table.specs.declared.Refusal.{Refusal}
+use Rattle.table.specs.Numbers.{numberOf}
+use Rattle.table.specs.Reply.{Reply, Numbered, refused}
+use Rattle.table.specs.Checks.{numbers, checked, _below_, Given, Given.here, Given.later, Passed, Passed.none, Passed.passes}
+use Rattle.table.proofs.Numbers.{above-zero}
+use Rattle.table.proofs.Checks.{given-refuses, passed-accepts, accepted-passed, refused-given, passed-nth, neither, neither-of, equal, zero-one}
+use Rattle.fabric.specs.Labels.{outsideSizes}
+use Rattle.sheet.specs.declared.Header.{Header}
+use Rattle.sheet.specs.declared.There.{There}
+use Rattle.sheet.specs.Format.{headerBytes, sizeIn, countIn, bytesBefore}
+use Rattle.sheet.specs.Entries.{headerSays, thereSays, wrongMark, wrongLength, headerChecks, thereChecks, ReadsHeader, HasAction, startOf, partOf}
+use Rattle.sheet.proofs.Promises.{header-accepts, there-passed, there-yes, part-there, start-there, part-nowhere, start-nowhere}
+use Rattle.sheet.proofs.Sheets.{header-read, header-written, there-once}
+
+-- "Header: the bytes `FSH`, version 1 (16 bits), n (8), action count (16).", of 01's example: n = 3, eleven actions; and a count of two bytes
+pub header-spelled :
+    (headerBytes 3 11 ≡ code "F" ∷ code "S" ∷ code "H" ∷ 0 ∷ 1 ∷ 3 ∷ 0 ∷ 11 ∷ [])
+    × (headerBytes 12 258 ≡ code "F" ∷ code "S" ∷ code "H" ∷ 0 ∷ 1 ∷ 12 ∷ 1 ∷ 2 ∷ [])
+header-spelled = (refl, refl)
+
+-- "sheet header: 14, 1, 15", and then "k not below the count gives 13"
+pub header-order : (sheet : List ℕ) → numbers (headerChecks sheet) ≡ 14 ∷ 1 ∷ 15 ∷ []
+header-order sheet = refl
+
+pub there-order : (sheet : List ℕ) (k : ℕ) → numbers (thereChecks sheet k) ≡ 14 ∷ 1 ∷ 15 ∷ 13 ∷ []
+there-order sheet k = refl
+
+pub header-numbered : (h : Header) → Numbered (headerSays h)
+header-numbered (Header.Sheet n count) = tt
+header-numbered (Header.Refused why) = above-zero why
+
+pub there-numbered : (t : There) → Numbered (thereSays t)
+there-numbered There.Yes = tt
+there-numbered (There.Refused why) = above-zero why
+
+-- 14: "sheet under 8 bytes, wrong mark or version": where no header stands at the sheet's front
+pub fourteen-exactly : (sheet : List ℕ) → ((i : ℕ) → getD sheet i 0 < 256) → (h : Header) → ReadsHeader sheet h
+    → (headerSays h ≡ refused 14) ↔ ((n count : ℕ) (rest : List ℕ) → sheet ≡ headerBytes n count ++ rest → ⊥)
+fourteen-exactly sheet bytes h r = (
+  (λ e n count rest s. there n count rest s (refused-given (headerChecks sheet) (sizeIn sheet ∷ countIn sheet ∷ []) 14 (sym e ∙ r .says))),
+  (λ missing. r .says ∙ go missing (wrongMark sheet) refl),
+)
+  where
+    there : (n count : ℕ) (rest : List ℕ) → sheet ≡ headerBytes n count ++ rest → Given 14 (headerChecks sheet) → ⊥
+    there n count rest s (here g e) = true≢false (sym g ∙ ap wrongMark s ∙ header-read n count rest .2)
+    there n count rest s (later g (here f e)) = zero-one (omega arith)
+    there n count rest s (later g (later f (here d e))) = zero-one (omega arith)
+
+    go : ((n count : ℕ) (rest : List ℕ) → sheet ≡ headerBytes n count ++ rest → ⊥) → (b : Bool) → wrongMark sheet ≡ b
+        → checked (headerChecks sheet) refused (Reply.accepted (sizeIn sheet ∷ countIn sheet ∷ [])) ≡ refused 14
+    go missing true e = rw e
+    go missing false e =
+        absurd (missing (sizeIn sheet) (countIn sheet) (drop 8 sheet) (sym (take-append-drop 8 sheet) ∙ ap (λ (l : List ℕ). l ++ drop 8 sheet) (header-written sheet bytes e)))
+
+-- a header with what follows it
+module _ (n count : ℕ) (rest : List ℕ) (h : Header) (r : ReadsHeader (headerBytes n count ++ rest) h) where
+  abbrev sheet : List ℕ
+  sheet = headerBytes n count ++ rest
+
+  size-right : (outsideSizes n ≡ false) ↔ ((1 ≤ n) × (n ≤ 12))
+  size-right = (
+    (λ e. let w = neither (n below 1) (12 below n) e in (ltb-false n 1 (w .0), ltb-false 12 n (w .1))),
+    (λ w. neither-of (n below 1) (12 below n) (le-ltb n 1 (w .0)) (le-ltb 12 n (w .1))),
+  )
+
+  length-right : (wrongLength sheet ≡ false) ↔ ((count ≤ 4096) × (length rest ≡ 10 * count))
+  length-right = (
+    (λ e.
+        let c = header-read n count rest .1 in
+        let w = neither (4096 below countIn sheet) (not (eqb (length sheet) (bytesBefore (countIn sheet)))) e in
+        let few : countIn sheet ≤ 4096 = ltb-false 4096 (countIn sheet) (w .0) in
+        let same : length sheet ≡ bytesBefore (countIn sheet) = eqb-true (length sheet) (bytesBefore (countIn sheet)) (not-false (eqb (length sheet) (bytesBefore (countIn sheet))) (w .1)) in
+        (omega arith, omega arith)),
+    (λ w.
+        let c = header-read n count rest .1 in
+        let few = w .0 in
+        let same = w .1 in
+        neither-of (4096 below countIn sheet) (not (eqb (length sheet) (bytesBefore (countIn sheet)))) (le-ltb 4096 (countIn sheet) (omega arith)) (equal {x = length sheet} {y = bytesBefore (countIn sheet)} (omega arith))),
+  )
+
+  -- "otherwise it answers n and the count": for n from 1 to 12, a count up to 4,096, 0 with it, and exactly 10 x count bytes more
+  pub header-exactly : (headerSays h ≡ Reply.accepted (n ∷ count ∷ [])) ↔ ((1 ≤ n) × (n ≤ 12) × (count ≤ 4096) × (length rest ≡ 10 * count))
+  header-exactly = (
+    (λ e.
+        let p = accepted-passed (headerChecks sheet) (sizeIn sheet ∷ countIn sheet ∷ []) (n ∷ count ∷ []) (sym e ∙ r .says) in
+        let s = size-right .0 (passed-nth (headerChecks sheet) 1 p) in
+        let l = length-right .0 (passed-nth (headerChecks sheet) 2 p) in
+        (s .0, s .1, l .0, l .1)),
+    (λ w.
+        let p : Passed (headerChecks sheet) = passes (header-read n count rest .2) (passes (size-right .1 (w .0, w .1)) (passes (length-right .1 (w .2, w .3)) none)) in
+        r .says
+        ∙ passed-accepts refused (Reply.accepted (sizeIn sheet ∷ countIn sheet ∷ [])) (headerChecks sheet) p
+        ∙ ap (λ (c : ℕ). Reply.accepted (n ∷ c ∷ [])) (header-read n count rest .1)),
+  )
+
+-- "one entry says whether the action is there": where the header is accepted and k is below its count
+pub there-exactly : (sheet : List ℕ) (k : ℕ) (t : There) → HasAction sheet k t
+    → (thereSays t ≡ Reply.accepted []) ↔ ((n count : ℕ) × ReadsHeader sheet (Header.Sheet n count) × (k < count))
+there-exactly sheet k t r = (
+  (λ e. header (accepted-passed (thereChecks sheet k) [] [] (sym e ∙ r .says))),
+  (λ w. ap thereSays (there-once sheet k t There.Yes r (there-yes (w .2) refl (w .3)))),
+)
+  where
+    header : Passed (thereChecks sheet k) → (n count : ℕ) × ReadsHeader sheet (Header.Sheet n count) × (k < count)
+    header (passes a (passes b (passes c (passes d none)))) =
+        (sizeIn sheet, countIn sheet, header-accepts (passes a (passes b (passes c none))) refl, leb-false (countIn sheet) k d)
+
+-- "action k is handed back as those ten bytes of the sheet themselves": bytes 8 + 10k to 17 + 10k; `part-is-ten` says that there are no more
+pub part-bytes : (sheet : List ℕ) (k : ℕ) → HasAction sheet k There.Yes
+    → (startOf sheet k ≡ 8 + 10 * k) × ((i : ℕ) → i < 10 → getD (partOf sheet k) i 0 ≡ getD sheet (8 + 10 * k + i) 0)
+part-bytes sheet k r = (
+  sym (start-there r refl),
+  (λ i h. ap (λ (l : List ℕ). getD l i 0) (passed-accepts (λ j. []) (take 10 (drop (bytesBefore k) sheet)) (thereChecks sheet k) (there-passed r)) ∙ getD-take 10 (drop (bytesBefore k) sheet) i 0 h ∙ getD-drop (bytesBefore k) sheet i 0),
+)
+
+-- "otherwise the empty part at the sheet's front"
+pub part-empty : (sheet : List ℕ) (k : ℕ) (why : Refusal) → HasAction sheet k (There.Refused why) → (startOf sheet k ≡ 0) × (partOf sheet k ≡ [])
+part-empty sheet k why r = (sym (start-nowhere r refl), sym (part-nowhere r refl))
