@@ -5,12 +5,12 @@ use Rattle.words.specs.Words.{decimal, tagBits, refusal, OK, TAG, NONE}
 use Rattle.book.specs.declared.Answer.{Answer}
 use Rattle.crossing.specs.declared.Found.{Found}
 
--- "`OK`, or `REFUSED` and the table number"
+-- "`OK`, or `REFUSED` and the table number": `told-spelled`
 abbrev pub told : Answer → List (List ℕ)
 told Answer.Done = OK ∷ []
 told (Answer.Refused why) = refusal why
 
--- "`TAG` with bits 0 to 2n-1 in that order, `NONE` with the stage, or `REFUSED` with the table number"
+-- "`TAG` with bits 0 to 2n-1 in that order, `NONE` with the stage, or `REFUSED` with the table number": `found-spelled`
 abbrev pub foundTold : ℕ → Found → List (List ℕ)
 foundTold n (Found.Tag tag) = TAG ∷ tagBits n tag ∷ []
 foundTold n (Found.None stage) = NONE ∷ decimal stage ∷ []

@@ -1,0 +1,2 @@
+-- what an answer prints, as it is spelled
+pub mod Spelling
