@@ -11,14 +11,14 @@ use Rattle.table.specs.Checks.{Check, checked, _when_}
 use Rattle.actions.specs.declared.Action.{Action}
 use Rattle.actions.specs.Format.{fieldsOf, bytesOf, layoutFault}
 
--- the number and values of each answer; the values of an action are the bytes of its fields
+-- the number and values of each answer; the values of an action are the bytes of its fields: `says-exactly`, `action-numbered`
 abbrev pub actionSays : Action → Reply
 actionSays (Action.File x) = Reply.accepted (bytesOf (Action.File x))
 actionSays (Action.Withdraw number) = Reply.accepted (bytesOf (Action.Withdraw number))
 actionSays (Action.Route source destination) = Reply.accepted (bytesOf (Action.Route source destination))
 actionSays (Action.Refused why) = refused (numberOf why)
 
--- "action reader (a part): 13, 2; otherwise the action with its fields."
+-- "action reader (a part): 13, 2; otherwise the action with its fields.": `action-order`, `thirteen-exactly`, `two-exactly`, `action-exactly`
 abbrev pub actionChecks : List ℕ → List Check
 actionChecks part = (13 when not (eqb (length part) 10)) ∷ (2 when layoutFault (fieldsOf part)) ∷ []
 

@@ -8,7 +8,7 @@ use Rattle.notices.specs.Layout.{actionBytes, filing}
 use Rattle.actions.specs.declared.Fields.{Fields}
 use Rattle.actions.specs.declared.Action.{Action}
 
--- "Numbers are big-endian.": the number of 16 bits at a place
+-- "Numbers are big-endian.": the number of 16 bits at a place; `big-endian`
 abbrev pub word : List ℕ → ℕ → ℕ
 word bytes i = getD bytes i 0 * 256 + getD bytes (i + 1) 0
 
@@ -30,7 +30,8 @@ fieldsOf part =
     }
 
 -- the ten bytes of an action: "Action 1 files", "Action 2 withdraws; only the number is used, all else zero", "Action 3
--- routes; switch is the source, mask the destination, all else zero"
+-- routes; switch is the source, mask the destination, all else zero". `example-bytes` has those of 01's example, `bytes-tell` says that no
+-- two actions have the same.
 abbrev pub bytesOf : Action → List ℕ
 bytesOf (Action.File x) = filing x
 bytesOf (Action.Withdraw number) = actionBytes 2 number 0 0 0 0 0
@@ -55,12 +56,13 @@ withdrawingFault f = someUsed (f .kind ∷ f .stage ∷ f .switch ∷ f .mask �
 abbrev pub routingFault : Fields → Bool
 routingFault f = someUsed (f .number ∷ f .kind ∷ f .stage ∷ f .set ∷ [])
 
--- `no-fault-is-an-action` and `action-has-no-fault` say that a fault is in exactly the bytes that no action has
+-- `no-fault-is-an-action` and `action-has-no-fault` say that a fault is in exactly the bytes that no action has, `two-exactly` that the
+-- reader refuses exactly these
 abbrev pub layoutFault : Fields → Bool
 layoutFault f =
     cond (eqb (f .action) 1) (filingFault f) (cond (eqb (f .action) 2) (withdrawingFault f) (cond (eqb (f .action) 3) (routingFault f) true))
 
--- an action, and no refusal
+-- an action, and no refusal: `action-is-no-refusal`
 abbrev pub IsAction : Action → Type 0
 IsAction (Action.File x) = Unit
 IsAction (Action.Withdraw number) = Unit

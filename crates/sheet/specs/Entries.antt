@@ -15,7 +15,7 @@ use Rattle.sheet.specs.declared.There.{There}
 use Rattle.actions.specs.Format.{word}
 use Rattle.sheet.specs.Format.{sizeIn, countIn, bytesBefore}
 
--- the number and values of each answer
+-- the number and values of each answer: `header-exactly`, `there-exactly`; `header-numbered`, `there-numbered`
 abbrev pub headerSays : Header → Reply
 headerSays (Header.Sheet n count) = Reply.accepted (n ∷ count ∷ [])
 headerSays (Header.Refused why) = refused (numberOf why)
@@ -24,7 +24,7 @@ abbrev pub thereSays : There → Reply
 thereSays There.Yes = Reply.accepted []
 thereSays (There.Refused why) = refused (numberOf why)
 
--- 14: "sheet under 8 bytes, wrong mark or version"
+-- 14: "sheet under 8 bytes, wrong mark or version": `fourteen-exactly` says that it is where no header stands at the front
 abbrev pub wrongMark : List ℕ → Bool
 wrongMark sheet =
     length sheet below 8
@@ -33,11 +33,11 @@ wrongMark sheet =
     || not (eqb (getD sheet 2 0) 72)
     || not (eqb (word sheet 3) 1)
 
--- 15: "action count above 4,096, or wrong sheet length"
+-- 15: "action count above 4,096, or wrong sheet length": `header-exactly`
 abbrev pub wrongLength : List ℕ → Bool
 wrongLength sheet = 4096 below countIn sheet || not (eqb (length sheet) (bytesBefore (countIn sheet)))
 
--- "sheet header: 14, 1, 15; otherwise it answers n and the count."
+-- "sheet header: 14, 1, 15; otherwise it answers n and the count.": `header-order`
 abbrev pub headerChecks : List ℕ → List Check
 headerChecks sheet =
     (14 when wrongMark sheet) ∷ (1 when outsideSizes (sizeIn sheet)) ∷ (15 when wrongLength sheet) ∷ []
@@ -46,7 +46,7 @@ pub record ReadsHeader (sheet : List ℕ) (answer : Header) : Type 0 where
   pub says : headerSays answer ≡ checked (headerChecks sheet) refused (Reply.accepted (sizeIn sheet ∷ countIn sheet ∷ []))
 
 -- "For a sheet and k, counted from 0, one entry says whether the action is there: a bad header gives the header's number, k
--- not below the count gives 13."
+-- not below the count gives 13.": `there-order`, `there-exactly`
 abbrev pub thereChecks : List ℕ → ℕ → List Check
 thereChecks sheet k = headerChecks sheet ++ (13 when k notBelow countIn sheet) ∷ []
 
@@ -54,7 +54,8 @@ pub record HasAction (sheet : List ℕ) (k : ℕ) (answer : There) : Type 0 wher
   pub says : thereSays answer ≡ checked (thereChecks sheet k) refused (Reply.accepted [])
 
 -- "A second entry returns a part only: where the first accepts, action k is handed back as those ten bytes of the sheet
--- themselves; otherwise the empty part at the sheet's front.": where in the sheet the part starts, and its bytes
+-- themselves; otherwise the empty part at the sheet's front.": where in the sheet the part starts, and its bytes:
+-- `part-bytes`, `part-is-ten`, `part-empty`
 abbrev pub startOf : List ℕ → ℕ → ℕ
 startOf sheet k = checked (thereChecks sheet k) (λ j. 0) (bytesBefore k)
 
