@@ -11,8 +11,9 @@ use Rattle.book.specs.declared.Kept.{Kept}
 use Rattle.book.specs.declared.Link.{Link}
 use Rattle.book.specs.declared.Listing.{Listing}
 use Rattle.book.specs.Entries.{opened, Files, Withdraws, Tests, Lists}
-use Rattle.book.specs.Runs.{Change, run, StandsSince}
-use Rattle.standing.specs.Rising.{Distinct}
+use Rattle.book.specs.Runs.{Change, run, AllAccepted, StandsSince}
+use Rattle.standing.specs.Rising.{Distinct, Reordered}
+use Rattle.standing.proofs.Distinct.{distinct-reordered}
 use Rattle.book.proofs.Since.{same-book}
 use Rattle.book.proofs.Once.{files-once, withdraws-once, tests-once, lists-once}
 use Rattle.walks.specs.declared.Ended.{Ended}
@@ -21,6 +22,13 @@ use Rattle.walks.specs.Entries.{Walks}
 use Rattle.router.specs.Entries.{Routes}
 use Rattle.walks.proofs.Entries.{walk-once}
 use Rattle.router.proofs.Entries.{route-once}
+
+-- "in any order": of a list of the notices accepted and not withdrawn since, none twice, any other order makes that book too.
+-- `since-list` says that every run has such a list.
+pub in-any-order : (n : ℕ) (changes : List Change) (l m : List Notice) → Distinct l → ((x : Notice) → List·Memᴰ x l ↔ StandsSince (opened n) changes x) → Reordered l m
+    → (run (map Change.file m) (opened n) ≡ run changes (opened n)) × AllAccepted (map Change.file m) (opened n)
+in-any-order n changes l m apart these other =
+    same-book n changes m (distinct-reordered l m apart other) (λ x. ((λ h. these x .0 (other .no-other x h)), (λ s. other .has-each x (these x .1 s))))
 
 module _ (n : ℕ) (changes : List Change) (l : List Notice) (apart : Distinct l)
     (these : (x : Notice) → List·Memᴰ x l ↔ StandsSince (opened n) changes x) where
