@@ -60,7 +60,7 @@ some-above-exactly n m = (told n m, λ w. back n m (w .0) (w .1) (w .2))
     back (suc i) (c ∷ l) zero h g = one-of (2 below c) (someAboveTwo (take i l)) (lt-ltb 2 c g)
     back (suc i) (c ∷ l) (suc k) h g = other (2 below c) (someAboveTwo (take i l)) (back i l k (omega arith) g)
 
--- n is let through, and outside sizes is not
+-- a size from 1 to 12 passes the first check
 sizes-pass : (n : ℕ) → 1 ≤ n → n ≤ 12 → outsideSizes n ≡ false
 sizes-pass n h l = neither-of (n below 1) (12 below n) (le-ltb n 1 h) (le-ltb 12 n l)
 
