@@ -45,9 +45,10 @@ pub fn inserted(book: Book, x: Notice) -> Book
     let p = standing::place(notices, count, x.number);
     let mut grown = standing::moved(notices, p, p + 1, count - p);
     grown[p] = x;
+    let more = count + 1;
     Book {
         n: book.n,
-        count: count + 1,
+        count: more,
         notices: grown,
     }
 }
@@ -62,10 +63,11 @@ pub fn removed(book: Book, k: u16) -> Book
     let p = standing::place(notices, count, k);
     let mut shrunk = standing::moved(notices, p + 1, p, count - p - 1);
     let x = standing::filler();
-    shrunk[count - 1] = x;
+    let last = count - 1;
+    shrunk[last] = x;
     Book {
         n: book.n,
-        count: count - 1,
+        count: last,
         notices: shrunk,
     }
 }

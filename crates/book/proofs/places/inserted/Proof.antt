@@ -26,8 +26,8 @@ mul-grown c = search needs
 array-set-from-grown : tie.Need-array-set-from-grown
 array-set-from-grown c = search needs
 
-add-t9 : tie.Need-add-t9
-add-t9 c = search needs
+add-more : tie.Need-add-more
+add-more c = search needs
 
 returns : tie.Need-returns
 returns c =
@@ -48,5 +48,5 @@ inserted-spec =
     moved-requires
     mul-grown
     array-set-from-grown
-    add-t9
+    add-more
     returns)

@@ -26,17 +26,14 @@ moved-requires c κs = search needs
 filler-requires : tie.Need-filler-requires
 filler-requires c κs = search needs
 
-sub-shrunk : tie.Need-sub-shrunk
-sub-shrunk c = search needs
+sub-last : tie.Need-sub-last
+sub-last c = search needs
 
 mul-shrunk : tie.Need-mul-shrunk
 mul-shrunk c = search needs
 
 array-set-from-shrunk : tie.Need-array-set-from-shrunk
 array-set-from-shrunk c = search needs
-
-sub-t10 : tie.Need-sub-t10
-sub-t10 c = search needs
 
 returns : tie.Need-returns
 returns c =
@@ -57,8 +54,7 @@ removed-spec =
     sub-moved-2
     moved-requires
     filler-requires
-    sub-shrunk
+    sub-last
     mul-shrunk
     array-set-from-shrunk
-    sub-t10
     returns)
