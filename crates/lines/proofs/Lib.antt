@@ -4,5 +4,5 @@ pub mod Reading
 pub mod Once
 -- the lines as they are spelled
 pub mod Spelling
--- whose line is printed, and check 2 before the entry's own
-pub mod Lining
+-- the line is that of the answer, and check 2 before the entry's own
+pub mod Answered

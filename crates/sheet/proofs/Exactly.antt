@@ -1,6 +1,6 @@
 -- What the entries over a sheet answer, said of the sheet's bytes alone.
 use mathlib.Core.Path.{_≡_, refl, sym, ap, _∙_}
-use mathlib.Core.Bool.{Bool, true, false, not, _||_, true≢false}
+use mathlib.Core.Bool.{Bool, true, false, cond, not, _||_, true≢false}
 use mathlib.Core.Logic.{_⊎_, inl, inr, _↔_}
 use mathlib.Core.List.{List, [], _∷_, _++_}
 use Prim.Native.Nat.{ℕ, _+_, _*_, _≤_, _<_}
@@ -90,6 +90,32 @@ module _ (n count : ℕ) (rest : List ℕ) (h : Header) (r : ReadsHeader (header
         let same = w .1 in
         neither-of (4096 below countIn sheet) (not (eqb (length sheet) (bytesBefore (countIn sheet)))) (le-ltb 4096 (countIn sheet) (omega arith)) (equal {x = length sheet} {y = bytesBefore (countIn sheet)} (omega arith))),
   )
+
+  judged : headerSays h ≡ cond (outsideSizes n) (refused 1) (cond (wrongLength sheet) (refused 15) (Reply.accepted (n ∷ countIn sheet ∷ [])))
+  judged = r .says ∙ rw (header-read n count rest .2)
+
+  -- 1: "n outside 1 to 12"
+  pub one-exactly : (headerSays h ≡ refused 1) ↔ ((1 ≤ n) × (n ≤ 12) → ⊥)
+  one-exactly = ((λ e w. other (wrongLength sheet) (sym e ∙ judged ∙ rw (size-right .1 w))), (λ w. go w (outsideSizes n) refl))
+    where
+      other : (b : Bool) → refused 1 ≡ cond b (refused 15) (Reply.accepted (n ∷ countIn sheet ∷ [])) → ⊥
+      other true e = let f : _≡_ {A = ℕ} 1 15 = cc in omega arith
+      other false e = zero-one cc
+
+      go : ((1 ≤ n) × (n ≤ 12) → ⊥) → (b : Bool) → outsideSizes n ≡ b → headerSays h ≡ refused 1
+      go w true e = judged ∙ rw e
+      go w false e = absurd (w (size-right .0 e))
+
+  -- 15: "action count above 4,096, or wrong sheet length"
+  pub fifteen-exactly : (1 ≤ n) × (n ≤ 12) → (headerSays h ≡ refused 15) ↔ ((count ≤ 4096) × (length rest ≡ 10 * count) → ⊥)
+  fifteen-exactly right = (
+    (λ e w. let f : refused 15 ≡ Reply.accepted (n ∷ countIn sheet ∷ []) = sym e ∙ judged ∙ rw (size-right .1 right, length-right .1 w) in zero-one cc),
+    (λ w. go w (wrongLength sheet) refl),
+  )
+    where
+      go : ((count ≤ 4096) × (length rest ≡ 10 * count) → ⊥) → (b : Bool) → wrongLength sheet ≡ b → headerSays h ≡ refused 15
+      go w true e = judged ∙ rw (size-right .1 right, e)
+      go w false e = absurd (w (length-right .0 e))
 
   -- "otherwise it answers n and the count": for n from 1 to 12, a count up to 4,096, 0 with it, and exactly 10 x count bytes more
   pub header-exactly : (headerSays h ≡ Reply.accepted (n ∷ count ∷ [])) ↔ ((1 ≤ n) × (n ≤ 12) × (count ≤ 4096) × (length rest ≡ 10 * count))

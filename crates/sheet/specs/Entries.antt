@@ -33,11 +33,11 @@ wrongMark sheet =
     || not (eqb (getD sheet 2 0) 72)
     || not (eqb (word sheet 3) 1)
 
--- 15: "action count above 4,096, or wrong sheet length": `header-exactly`
+-- 15: "action count above 4,096, or wrong sheet length": `fifteen-exactly`
 abbrev pub wrongLength : List ℕ → Bool
 wrongLength sheet = 4096 below countIn sheet || not (eqb (length sheet) (bytesBefore (countIn sheet)))
 
--- "sheet header: 14, 1, 15; otherwise it answers n and the count.": `header-order`
+-- "sheet header: 14, 1, 15; otherwise it answers n and the count.": `header-order`, `one-exactly`, `header-exactly`
 abbrev pub headerChecks : List ℕ → List Check
 headerChecks sheet =
     (14 when wrongMark sheet) ∷ (1 when outsideSizes (sizeIn sheet)) ∷ (15 when wrongLength sheet) ∷ []
