@@ -1,45 +1,23 @@
 -- What the action reader answers, said of a part's bytes alone: an action exactly for its own ten bytes, 2 exactly for ten bytes that no
 -- action has, 13 exactly for another length.
-use mathlib.Core.Path.{_≡_, refl, sym, ap, _∙_, subst}
+use mathlib.Core.Path.{_≡_, refl, ap, subst}
 use mathlib.Core.Bool.{Bool, true, false}
 use mathlib.Core.Logic.{_⊎_, inl, inr, _↔_}
-use mathlib.Core.List.{List, [], _∷_}
+use mathlib.Core.List.{List}
 use Prim.Native.Nat.{ℕ, _<_}
 use native.Mathlib.Omega.{arith}
 use lib.ListN.{length, getD}
 use Rattle.table.specs.declared.Refusal.{Refusal}
 use Rattle.table.specs.Numbers.{numberOf}
 use Rattle.table.specs.Reply.{Reply, Numbered}
-use Rattle.table.specs.Checks.{numbers, Given.here, Given.later}
+use Rattle.table.specs.Checks.{Given.here, Given.later}
 use Rattle.table.proofs.Numbers.{above-zero}
 use Rattle.table.proofs.Checks.{zero-one, equal, unequal}
-use Rattle.notices.specs.declared.Target.the-variants.{Links, Switch, Pattern}
 use Rattle.actions.specs.declared.Action.{Action}
 use Rattle.actions.specs.Format.{IsAction, fieldsOf, bytesOf, layoutFault}
-use Rattle.actions.specs.Entries.{actionSays, actionChecks, ReadsAction}
+use Rattle.actions.specs.Entries.{actionSays, ReadsAction}
 use Rattle.actions.proofs.Promises.{action-refuses}
 use Rattle.actions.proofs.Actions.{kind-of, action-once, reads-its-bytes, read-is-written, no-fault-is-an-action, ten-bytes-fault}
-
--- 01's example: "file 7 links stage 0 switch 1 set 4", "file 8 pattern stage 0 value 1 mask 3 set 4", "file 7 switch column 1 switch 2",
--- "withdraw 7" and "route 8 to 0"; and numbers of two bytes
-pub example-bytes :
-    bytesOf (Action.File (record { number = 7; target = Links 0 1 4 }))
-    ∷ bytesOf (Action.File (record { number = 8; target = Pattern 0 1 3 4 }))
-    ∷ bytesOf (Action.File (record { number = 7; target = Switch 1 2 }))
-    ∷ bytesOf (Action.Withdraw 7)
-    ∷ bytesOf (Action.Route 8 0)
-    ∷ bytesOf (Action.Withdraw 258)
-    ∷ bytesOf (Action.Route 772 1286)
-    ∷ []
-    ≡ (1 ∷ 0 ∷ 7 ∷ 1 ∷ 0 ∷ 0 ∷ 1 ∷ 0 ∷ 0 ∷ 4 ∷ [])
-    ∷ (1 ∷ 0 ∷ 8 ∷ 3 ∷ 0 ∷ 0 ∷ 1 ∷ 0 ∷ 3 ∷ 4 ∷ [])
-    ∷ (1 ∷ 0 ∷ 7 ∷ 2 ∷ 1 ∷ 0 ∷ 2 ∷ 0 ∷ 0 ∷ 0 ∷ [])
-    ∷ (2 ∷ 0 ∷ 7 ∷ 0 ∷ 0 ∷ 0 ∷ 0 ∷ 0 ∷ 0 ∷ 0 ∷ [])
-    ∷ (3 ∷ 0 ∷ 0 ∷ 0 ∷ 0 ∷ 0 ∷ 8 ∷ 0 ∷ 0 ∷ 0 ∷ [])
-    ∷ (2 ∷ 1 ∷ 2 ∷ 0 ∷ 0 ∷ 0 ∷ 0 ∷ 0 ∷ 0 ∷ 0 ∷ [])
-    ∷ (3 ∷ 0 ∷ 0 ∷ 0 ∷ 0 ∷ 3 ∷ 4 ∷ 5 ∷ 6 ∷ 0 ∷ [])
-    ∷ []
-example-bytes = refl
 
 -- an action is what is no refusal
 pub action-is-no-refusal : (a : Action) → IsAction a ↔ ((why : Refusal) → a ≡ Action.Refused why → ⊥)
@@ -61,10 +39,6 @@ action-numbered (Action.File x) = tt
 action-numbered (Action.Withdraw k) = tt
 action-numbered (Action.Route s d) = tt
 action-numbered (Action.Refused why) = above-zero why
-
--- "action reader (a part): 13, 2"
-pub action-order : (part : List ℕ) → numbers (actionChecks part) ≡ 13 ∷ 2 ∷ []
-action-order part = refl
 
 -- "otherwise the action with its fields"
 pub action-exactly : (part : List ℕ) (a : Action) → IsAction a → ReadsAction part a ↔ (bytesOf a ≡ part)

@@ -11,13 +11,9 @@ use lib.Seq.{drop-cons}
 use Rattle.table.proofs.Checks.{neither}
 use Rattle.notices.specs.Layout.{actionBytes}
 use Rattle.actions.specs.declared.Fields.{Fields}
-use Rattle.actions.specs.Format.{word, fieldBytes, fieldsOf, someUsed, filingFault, withdrawingFault, routingFault, layoutFault}
+use Rattle.actions.specs.Format.{fieldBytes, fieldsOf, someUsed, filingFault, withdrawingFault, routingFault, layoutFault}
 
--- "Numbers are big-endian.": the bytes 1 and 2 are 258
-pub big-endian : word (1 ∷ 2 ∷ []) 0 ≡ 258
-big-endian = refl
-
--- and what is read is what was written, and the other way round
+-- "Numbers are big-endian.": what is read is what was written, and the other way round
 pub word-read : (x : ℕ) → x / 256 * 256 + x % 256 ≡ x
 word-read x = omega arith
 

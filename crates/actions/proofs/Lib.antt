@@ -1,3 +1,5 @@
+-- what the definitions say
+pub mod Meanings
 -- the format, read and written
 pub mod Layouts
 -- how the reader meets its promise

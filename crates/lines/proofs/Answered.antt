@@ -1,12 +1,12 @@
 -- The line of an action is that of its entry's answer, and a layout fault comes before anything that the entry would answer.
-use mathlib.Core.Path.{_≡_, refl, sym, ap, _∙_}
+use mathlib.Core.Path.{_≡_, refl, ap, _∙_}
 use mathlib.Core.List.{List, [], _∷_, _++_}
 use Prim.Native.Nat.{ℕ, _<_}
 use lib.ListN.{length, getD}
 use Rattle.table.specs.declared.Refusal.{Refusal}
 use Rattle.table.specs.Checks.{Given.here, Given.later}
 use Rattle.words.specs.Words.{ascii, decimalIn, decimal, ending, FILE, WITHDRAW, ROUTE, ACTION}
-use Rattle.words.proofs.Spelling.{Within, Words, line-feed-last, nine-are-words, decimal-is-a-word}
+use Rattle.words.proofs.Spelling.{Within, line-feed-last, nine-are-words, decimal-is-a-word}
 use Rattle.answers.specs.Told.{told, foundTold}
 use Rattle.answers.proofs.Spelling.{told-in-words, found-in-words}
 use Rattle.book.specs.declared.Book.{Book}
@@ -24,7 +24,7 @@ use Rattle.actions.specs.Entries.{ReadsAction}
 use Rattle.actions.proofs.Promises.{action-refuses}
 use Rattle.actions.proofs.Actions.{action-once}
 use Rattle.actions.proofs.Exactly.{two-exactly}
-use Rattle.lines.specs.Text.{fileLine, withdrawLine, routeLine, faultLine}
+use Rattle.lines.specs.Text.{fileLine, withdrawLine, routeLine}
 use Rattle.lines.specs.Lines.{LineOf, LineAt}
 
 -- what an action prints and hands on is what its entry answers

@@ -1,42 +1,26 @@
 -- What the entries over a sheet answer, said of the sheet's bytes alone.
 use mathlib.Core.Path.{_≡_, refl, sym, ap, _∙_}
-use mathlib.Core.Bool.{Bool, true, false, cond, not, _||_, true≢false}
-use mathlib.Core.Logic.{_⊎_, inl, inr, _↔_}
+use mathlib.Core.Bool.{Bool, true, false, cond, true≢false}
+use mathlib.Core.Logic.{_↔_}
 use mathlib.Core.List.{List, [], _∷_, _++_}
 use Prim.Native.Nat.{ℕ, _+_, _*_, _≤_, _<_}
-use Prim.Native.Char.{code}
-use native.Mathlib.Decide.{decLt, decLe, ℕ-discrete}
 use native.Mathlib.Omega.{arith}
-use borrow.Author.Tests.{lt-ltb, le-ltb, ltb-false, eqb-true, not-false, leb-false}
-use lib.Dec.{eqb}
+use borrow.Author.Tests.{le-ltb, ltb-false, leb-false}
 use lib.ListN.{length, take, drop, getD, take-append-drop}
 use lib.Seq.{getD-take, getD-drop}
 use Rattle.table.specs.declared.Refusal.{Refusal}
-use Rattle.table.specs.Numbers.{numberOf}
 use Rattle.table.specs.Reply.{Reply, Numbered, refused}
-use Rattle.table.specs.Checks.{numbers, checked, _below_, Given, Given.here, Given.later, Passed, Passed.none, Passed.passes}
+use Rattle.table.specs.Checks.{checked, _below_, Given, Given.here, Given.later, Passed, Passed.none, Passed.passes}
 use Rattle.table.proofs.Numbers.{above-zero}
-use Rattle.table.proofs.Checks.{given-refuses, passed-accepts, accepted-passed, refused-given, passed-nth, neither, neither-of, equal, zero-one}
+use Rattle.table.proofs.Checks.{passed-accepts, accepted-passed, refused-given, passed-nth, neither, neither-of, zero-one}
 use Rattle.fabric.specs.Labels.{outsideSizes}
 use Rattle.sheet.specs.declared.Header.{Header}
 use Rattle.sheet.specs.declared.There.{There}
 use Rattle.sheet.specs.Format.{headerBytes, sizeIn, countIn, bytesBefore}
 use Rattle.sheet.specs.Entries.{headerSays, thereSays, wrongMark, wrongLength, headerChecks, thereChecks, ReadsHeader, HasAction, startOf, partOf}
-use Rattle.sheet.proofs.Promises.{header-accepts, there-passed, there-yes, part-there, start-there, part-nowhere, start-nowhere}
+use Rattle.sheet.proofs.Meanings.{length-exactly}
+use Rattle.sheet.proofs.Promises.{header-accepts, there-passed, there-yes, start-there, part-nowhere, start-nowhere}
 use Rattle.sheet.proofs.Sheets.{header-read, header-written, there-once}
-
--- "Header: the bytes `FSH`, version 1 (16 bits), n (8), action count (16).", of 01's example: n = 3, eleven actions; and a count of two bytes
-pub header-spelled :
-    (headerBytes 3 11 ≡ code "F" ∷ code "S" ∷ code "H" ∷ 0 ∷ 1 ∷ 3 ∷ 0 ∷ 11 ∷ [])
-    × (headerBytes 12 258 ≡ code "F" ∷ code "S" ∷ code "H" ∷ 0 ∷ 1 ∷ 12 ∷ 1 ∷ 2 ∷ [])
-header-spelled = (refl, refl)
-
--- "sheet header: 14, 1, 15", and then "k not below the count gives 13"
-pub header-order : (sheet : List ℕ) → numbers (headerChecks sheet) ≡ 14 ∷ 1 ∷ 15 ∷ []
-header-order sheet = refl
-
-pub there-order : (sheet : List ℕ) (k : ℕ) → numbers (thereChecks sheet k) ≡ 14 ∷ 1 ∷ 15 ∷ 13 ∷ []
-there-order sheet k = refl
 
 pub header-numbered : (h : Header) → Numbered (headerSays h)
 header-numbered (Header.Sheet n count) = tt
@@ -80,15 +64,15 @@ module _ (n count : ℕ) (rest : List ℕ) (h : Header) (r : ReadsHeader (header
   length-right = (
     (λ e.
         let c = header-read n count rest .1 in
-        let w = neither (4096 below countIn sheet) (not (eqb (length sheet) (bytesBefore (countIn sheet)))) e in
-        let few : countIn sheet ≤ 4096 = ltb-false 4096 (countIn sheet) (w .0) in
-        let same : length sheet ≡ bytesBefore (countIn sheet) = eqb-true (length sheet) (bytesBefore (countIn sheet)) (not-false (eqb (length sheet) (bytesBefore (countIn sheet))) (w .1)) in
+        let w = length-exactly sheet .0 e in
+        let few = w .0 in
+        let same = w .1 in
         (omega arith, omega arith)),
     (λ w.
         let c = header-read n count rest .1 in
         let few = w .0 in
         let same = w .1 in
-        neither-of (4096 below countIn sheet) (not (eqb (length sheet) (bytesBefore (countIn sheet)))) (le-ltb 4096 (countIn sheet) (omega arith)) (equal {x = length sheet} {y = bytesBefore (countIn sheet)} (omega arith))),
+        length-exactly sheet .1 (omega arith, omega arith)),
   )
 
   judged : headerSays h ≡ cond (outsideSizes n) (refused 1) (cond (wrongLength sheet) (refused 15) (Reply.accepted (n ∷ countIn sheet ∷ [])))

@@ -1,3 +1,5 @@
+-- what the definitions say
+pub mod Meanings
 -- how the entries meet their promises
 pub mod Promises
 -- no second answer, and what is written is what is read

@@ -1,21 +1,20 @@
 -- An entry meets its promise where it refuses by a number that its checks give, and where it passes them and does its work.
 use mathlib.Core.Path.{_≡_, refl, sym, ap, _∙_}
-use mathlib.Core.Bool.{not}
 use mathlib.Core.List.{List, [], _∷_}
 use Prim.Native.Nat.{ℕ, _+_, _-_, _≤_, _<_}
 use native.Mathlib.Omega.{arith}
-use borrow.Author.Tests.{le-leb, lt-leb, leb-false, ltb-false, eqb-true, not-false}
-use lib.Dec.{eqb}
+use borrow.Author.Tests.{le-leb, lt-leb, leb-false}
 use lib.ListN.{length, take, drop}
 use Rattle.table.specs.declared.Refusal.{Refusal}
 use Rattle.table.specs.Numbers.{numberOf}
 use Rattle.table.specs.Reply.{Reply.accepted, refused}
-use Rattle.table.specs.Checks.{_when_, _below_, _notBelow_, Given, Given.here, Passed, Passed.none, Passed.passes}
-use Rattle.table.proofs.Checks.{given-refuses, passed-accepts, accepted-passed, refused-given, accepted-says, given-before, given-after, passed-both, passed-nth, neither}
+use Rattle.table.specs.Checks.{_when_, _notBelow_, Given, Given.here, Passed, Passed.none, Passed.passes}
+use Rattle.table.proofs.Checks.{given-refuses, passed-accepts, accepted-passed, refused-given, accepted-says, given-before, given-after, passed-both, passed-nth}
 use Rattle.sheet.specs.declared.Header.{Header}
 use Rattle.sheet.specs.declared.There.{There}
 use Rattle.sheet.specs.Format.{sizeIn, countIn, bytesBefore}
 use Rattle.sheet.specs.Entries.{headerChecks, ReadsHeader, thereChecks, HasAction, startOf, partOf}
+use Rattle.sheet.proofs.Meanings.{length-exactly}
 
 module _ {sheet : List ℕ} where
   pub header-refuses : {why : Refusal} → Given (numberOf why) (headerChecks sheet) → ReadsHeader sheet (Header.Refused why)
@@ -78,9 +77,9 @@ module _ {sheet : List ℕ} {k : ℕ} where
   there-fits r e =
       let p = there-passed (rw e at r) in
       let early : k < countIn sheet = leb-false (countIn sheet) k (passed-nth (thereChecks sheet k) 3 p) in
-      let len = neither (4096 below countIn sheet) (not (eqb (length sheet) (bytesBefore (countIn sheet)))) (passed-nth (thereChecks sheet k) 2 p) in
-      let few : countIn sheet ≤ 4096 = ltb-false 4096 (countIn sheet) (len .0) in
-      let same : length sheet ≡ bytesBefore (countIn sheet) = eqb-true (length sheet) (bytesBefore (countIn sheet)) (not-false (eqb (length sheet) (bytesBefore (countIn sheet))) (len .1)) in
+      let len = length-exactly sheet .0 (passed-nth (thereChecks sheet k) 2 p) in
+      let few = len .0 in
+      let same = len .1 in
       (omega arith, omega arith)
 
   pub part-there : {t : There} → HasAction sheet k t → t ≡ There.Yes → take (bytesBefore k + 10 - bytesBefore k) (drop (bytesBefore k) sheet) ≡ partOf sheet k

@@ -2,7 +2,7 @@
 use mathlib.Core.Path.{_≡_, refl, sym, ap, _∙_}
 use mathlib.Core.Bool.{Bool, true, _&&_}
 use mathlib.Core.List.{List, [], _∷_, _++_, append-assoc}
-use Prim.Native.Nat.{ℕ, zero, suc, _+_, _*_, _/_, _%_, _^_, _≤_, _<_}
+use Prim.Native.Nat.{ℕ, zero, suc, _+_, _*_, _/_, _%_, _≤_, _<_}
 use native.Mathlib.Decide.{decLt}
 use native.Mathlib.Omega.{arith}
 use borrow.Author.Tests.{leb-true}
@@ -10,7 +10,6 @@ use lib.Dec.{leb}
 use Rattle.table.specs.declared.Refusal.{Refusal}
 use Rattle.table.specs.Numbers.{numberOf}
 use Rattle.table.proofs.Checks.{both-hold}
-use Rattle.fabric.specs.Labels.{bit}
 use Rattle.words.specs.Words.{ascii, decimal, bitsFrom, tagBits, SHEET, FILE, WITHDRAW, ROUTE, ACTION, OK, REFUSED, TAG, NONE, ending, line, refusal}
 use Rattle.words.proofs.Decimals.{decimal-one, decimal-more}
 
