@@ -1,12 +1,11 @@
 -- No ten bytes have a second answer, and the reader is the format read backward.
 use mathlib.Core.Path.{_≡_, refl, sym, ap, _∙_}
-use mathlib.Core.Bool.{false, cond, not, true≢false}
+use mathlib.Core.Bool.{false, cond, true≢false}
 use mathlib.Core.Logic.{_⊎_, inl, inr}
 use mathlib.Core.List.{List}
 use Prim.Native.Nat.{ℕ, _<_}
 use native.Mathlib.Decide.{ℕ-discrete}
 use native.Mathlib.Omega.{arith}
-use borrow.Author.Tests.{eq-eqb}
 use lib.Dec.{eqb}
 use lib.ListN.{length, getD}
 use Rattle.table.specs.declared.Refusal.{Refusal}
@@ -22,6 +21,7 @@ use Rattle.actions.specs.declared.Action.{Action}
 use Rattle.actions.specs.declared.Fields.{Fields}
 use Rattle.actions.specs.Format.{IsAction, fieldBytes, fieldsOf, bytesOf, layoutFault}
 use Rattle.actions.specs.Entries.{actionSays, actionChecks, ReadsAction}
+use Rattle.actions.proofs.Meanings.{ten-bytes-pass}
 use Rattle.actions.proofs.Layouts.{word-read, fields-written, links-bytes, switch-bytes, pattern-bytes, withdrawing-bytes, routing-bytes, filing-right, withdrawing-right, routing-right, links-right, switch-right, pattern-right}
 
 -- the action that fields without a fault are
@@ -142,5 +142,5 @@ pub ten-bytes-fault : (part : List ℕ) (why : Refusal) → length part ≡ 10 �
 ten-bytes-fault part why l r = go (refused-given (actionChecks part) part (numberOf why) (r .says))
   where
     go : Given (numberOf why) (actionChecks part) → why ≡ Refusal.Layout
-    go (here h e) = absurd (true≢false (sym h ∙ ap not (eq-eqb (length part) 10 l)))
+    go (here h e) = absurd (true≢false (sym h ∙ ten-bytes-pass part .1 l))
     go (later h (here g e)) = number-tells why Refusal.Layout (sym e)

@@ -8,10 +8,13 @@ use Prim.Native.Char.{code}
 use borrow.Author.Tests.{le-ltb, ltb-false, eqb-true, not-false, le-leb, leb-true}
 use lib.Dec.{eqb}
 use lib.ListN.{length, getD}
+use Rattle.table.specs.Reply.{Reply}
 use Rattle.table.specs.Checks.{numbers, _when_, _below_}
 use Rattle.table.proofs.Checks.{neither, neither-of, equal}
+use Rattle.sheet.specs.declared.Header.{Header}
+use Rattle.sheet.specs.declared.There.{There}
 use Rattle.sheet.specs.Format.{headerBytes, countIn, bytesBefore}
-use Rattle.sheet.specs.Entries.{wrongLength, headerChecks, thereChecks}
+use Rattle.sheet.specs.Entries.{headerSays, thereSays, wrongLength, headerChecks, thereChecks}
 
 -- "Header: the bytes `FSH`, version 1 (16 bits), n (8), action count (16).", of 01's example: n = 3, eleven actions; and a count of two bytes
 pub header-spelled :
@@ -25,6 +28,10 @@ header-order sheet = refl
 
 pub there-order : (sheet : List ℕ) (k : ℕ) → numbers (thereChecks sheet k) ≡ 14 ∷ 1 ∷ 15 ∷ 13 ∷ []
 there-order sheet k = refl
+
+-- "otherwise it answers n and the count", of 01's example; an action that is there says nothing more
+pub said-when-accepted : (headerSays (Header.Sheet 3 11) ≡ Reply.accepted (3 ∷ 11 ∷ [])) × (thereSays There.Yes ≡ Reply.accepted [])
+said-when-accepted = (refl, refl)
 
 -- 15: "action count above 4,096, or wrong sheet length", "Length is exactly 8 + 10 x count"
 pub length-exactly : (sheet : List ℕ) → (wrongLength sheet ≡ false) ↔ ((countIn sheet ≤ 4096) × (length sheet ≡ 8 + 10 * countIn sheet))
