@@ -1,6 +1,6 @@
 -- values that fit
 pub mod Few
--- how the functions over a book meet their promises
-pub mod Overs
--- no second answer
+-- no second answer, and no second memory
 pub mod Once
+-- what a host reads off the header's number
+pub mod Headers

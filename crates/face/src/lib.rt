@@ -1,13 +1,11 @@
 // Document 01's entries for C and Rust: numbers and byte slices alone. include/tabashfar.h says how a host calls them. An answer is one
 // number (`packed`): its low byte is the table's number, 0 where the call was accepted, and the bits from 8 on hold the value.
 mod numbers; // numbers.rt: an answer as one number
-mod books; // books.rt: the book that a sheet makes
 
 use book::Book;
-use books::after_all;
+use handed::after_all;
 use notices::Notice;
 use notices::Target;
-use numbers::action_kind;
 use numbers::answered;
 use numbers::ended;
 use numbers::found;
@@ -15,10 +13,10 @@ use numbers::header_told;
 use numbers::link_told;
 use numbers::listed;
 use numbers::ran;
-use numbers::refused;
 use numbers::tag_told;
 use numbers::there_told;
 use numbers::written;
+use packing::refused;
 use sheet::Header;
 use sheet::There;
 ghost use mathlib.Core.Path.{_≡_};
@@ -33,8 +31,9 @@ ghost use Rattle.router.specs.Entries.{Routes};
 ghost use Rattle.actions.specs.Entries.{ReadsAction};
 ghost use Rattle.sheet.specs.Entries.{headerSays, thereSays, ReadsHeader, HasAction, startOf, partOf};
 ghost use Rattle.printed.specs.Runs.{ranSays, Runs};
-ghost use Rattle.face.specs.Packed.{kindSays, keptSays, Tells};
-ghost use Rattle.face.specs.Books.{OverSheet, ListsOver};
+ghost use Rattle.packing.specs.Packed.{Tells};
+ghost use Rattle.fields.specs.Fields.{kindSays, ReadsFields};
+ghost use Rattle.handed.specs.Books.{keptSays, OverSheet, ListsOver};
 
 // "tag to steps (n, source, tag, memory)"
 #[no_mangle]
@@ -240,7 +239,15 @@ pub extern "C" fn tabashfar_action_part(sheet: &[u8], k: usize) -> u64
 pub extern "C" fn tabashfar_read_action(part: &[u8]) -> u64
     ensures { λ r. ⌜ Tells (ReadsAction (now (part .entry))) kindSays r ⌝ }
 {
-    action_kind(actions::read_action(part))
+    fields::kind(actions::read_action(part))
+}
+
+// "otherwise the action with its fields": the seven of them at the front of the memory
+#[no_mangle]
+pub extern "C" fn tabashfar_action_fields(part: &[u8], memory: &mut [u16]) -> u64
+    ensures { λ r. ⌜ ReadsFields (now (part .entry)) (now (memory .entry)) (now (memory .exit)) r ⌝ }
+{
+    fields::read_fields(part, memory)
 }
 
 // Runs a whole sheet and writes what it prints at the front of the memory.

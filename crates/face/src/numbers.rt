@@ -1,32 +1,24 @@
 // An answer as one number: the table's number in the low byte, 0 where the call was accepted, and the value from bit 8 on.
-use actions::Action;
 use book::Answer;
 use book::Link;
 use book::Listing;
 use crossing::Found;
+use packing::refused;
 use printed::Ran;
 use sheet::Header;
 use sheet::There;
-use table::Refusal;
 use tags::Tag;
 use tags::Written;
 use walks::Ended;
 ghost use mathlib.Core.Path.{_≡_};
 ghost use Prim.Native.Nat.{ℕ, _≤_};
-ghost use Rattle.table.specs.Numbers.{numberOf};
 ghost use Rattle.tags.specs.Entries.{writtenSays, tagSays};
 ghost use Rattle.book.specs.Entries.{answerSays, linkSays, listingSays};
 ghost use Rattle.walks.specs.Entries.{walkSays};
 ghost use Rattle.crossing.specs.Routed.{routeSays};
 ghost use Rattle.sheet.specs.Entries.{headerSays, thereSays};
 ghost use Rattle.printed.specs.Runs.{ranSays};
-ghost use Rattle.face.specs.Packed.{packed, kindSays};
-
-pub fn refused(why: Refusal) -> u64
-    ensures { λ r. ⌜ r ≡ numberOf why ⌝ }
-{
-    table::number(why) as u64
-}
+ghost use Rattle.packing.specs.Packed.{packed};
 
 pub fn written(answer: Written) -> u64
     ensures { λ r. ⌜ r ≡ packed (writtenSays answer) ⌝ }
@@ -111,20 +103,6 @@ pub fn there_told(answer: There) -> u64
     match answer {
         There::Yes => 0,
         There::Refused(why) => refused(why),
-    }
-}
-
-pub fn action_kind(answer: Action) -> u64
-    ensures { λ r. ⌜ r ≡ packed (kindSays answer) ⌝ }
-{
-    match answer {
-        Action::File(_) => 256,
-        Action::Withdraw(_) => 512,
-        Action::Route {
-            source: _,
-            destination: _,
-        } => 768,
-        Action::Refused(why) => refused(why),
     }
 }
 

@@ -1,6 +1,6 @@
 -- The header's refusal, or the entry over the book after the sheet's actions.
 use Rattle.face.proofs.Few.{few-listed}
-use Rattle.face.proofs.Overs.{lists-whole, lists-refused}
+use Rattle.handed.proofs.Overs.{lists-whole, lists-refused}
 use borrow.Author.Needs.{needs}
 use Rattle.face.proofs.tabashfar_listing.Statement.{statement}
 use Rattle.face.proofs.tabashfar_listing.Tie as tie

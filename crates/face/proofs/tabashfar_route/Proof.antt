@@ -1,5 +1,5 @@
 -- The header's refusal, or the entry over the book after the sheet's actions.
-use Rattle.face.proofs.Overs.{over-whole, over-refused}
+use Rattle.handed.proofs.Overs.{over-whole, over-refused}
 use borrow.Author.Needs.{needs}
 use Rattle.face.proofs.tabashfar_route.Statement.{statement}
 use Rattle.face.proofs.tabashfar_route.Tie as tie

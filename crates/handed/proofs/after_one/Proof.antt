@@ -1,8 +1,8 @@
 -- What the entry of the action hands back.
 use mathlib.Core.Path.{refl}
 use borrow.Author.Needs.{needs}
-use Rattle.face.proofs.books.after_one.Statement.{statement}
-use Rattle.face.proofs.books.after_one.Tie as tie
+use Rattle.handed.proofs.after_one.Statement.{statement}
+use Rattle.handed.proofs.after_one.Tie as tie
 
 enum-known-action : tie.Need-enum-known-action
 enum-known-action c = search needs

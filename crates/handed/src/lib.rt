@@ -1,7 +1,7 @@
-// The book that a host hands over as a sheet.
+// The book that a host hands over as a sheet: the one that the sheet's filings and withdrawals make.
 use actions::Action;
 use book::Book;
-ghost use Rattle.face.specs.Books.{Leaves, After};
+ghost use Rattle.handed.specs.Books.{Leaves, After};
 
 // The book after the first `count` actions of a sheet, its routes passed over.
 pub fn after_all(sheet: &[u8], n: u8, count: u16) -> Book

@@ -4,9 +4,9 @@ use native.Mathlib.Omega.{arith}
 use native.Mathlib.Numerals.{add-one}
 use mathlib.Core.Path.{_≡_}
 use borrow.Author.Needs.{needs}
-use Rattle.face.specs.Books.{After, After.start, After.more}
-use Rattle.face.proofs.books.after_all.Statement.{statement}
-use Rattle.face.proofs.books.after_all.Tie as tie
+use Rattle.handed.specs.Books.{After, After.start, After.more}
+use Rattle.handed.proofs.after_all.Statement.{statement}
+use Rattle.handed.proofs.after_all.Tie as tie
 
 abbrev Inv-loop : tie.InvT-loop
 Inv-loop sheet n count book₀ k₀ book k = (k ≤ count) × After sheet n k book

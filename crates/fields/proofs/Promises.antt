@@ -1,0 +1,57 @@
+-- A part that the action reader accepts has ten bytes and only the room left to check; one that it refuses leaves the memory as it was.
+use mathlib.Core.Path.{_≡_, refl, sym, ap, _∙_}
+use mathlib.Core.List.{List, [], _∷_, _++_}
+use Prim.Native.Nat.{ℕ, _≤_, _<_}
+use borrow.Author.Tests.{eqb-true, not-false, lt-ltb, le-ltb}
+use lib.Dec.{eqb}
+use lib.ListN.{length, drop, getD}
+use Rattle.table.specs.declared.Refusal.{Refusal}
+use Rattle.table.specs.Numbers.{numberOf}
+use Rattle.table.specs.Reply.{Reply, Reply.accepted, refused}
+use Rattle.table.specs.Checks.{Check, checked, Given, Passed, Passed.none, Passed.passes}
+use Rattle.table.proofs.Checks.{given-refuses, accepted-passed, refused-given, passed-nth, given-before}
+use Rattle.packing.specs.Packed.{packed}
+use Rattle.actions.specs.declared.Action.{Action}
+use Rattle.actions.specs.Format.{IsAction, fieldsOf, bytesOf}
+use Rattle.actions.specs.Entries.{actionSays, actionChecks, ReadsAction}
+use Rattle.fields.specs.Fields.{inOrder, roomCheck, fieldsChecks, FieldsWritten, ReadsFields}
+
+-- checks that are passed leave those after them
+passed-leaves {ℓ} : {A : Type ℓ} (refuse : ℕ → A) (accept : A) (cs ds : List Check) → Passed cs → checked (cs ++ ds) refuse accept ≡ checked ds refuse accept
+passed-leaves refuse accept [] ds none = refl
+passed-leaves refuse accept (c ∷ cs) ds (passes h p) = rw h (passed-leaves refuse accept cs ds p)
+
+action-passed : (part : List ℕ) (a : Action) → IsAction a → ReadsAction part a → Passed (actionChecks part)
+action-passed part (Action.File x) i r = accepted-passed (actionChecks part) part (bytesOf (Action.File x)) (r .says)
+action-passed part (Action.Withdraw k) i r = accepted-passed (actionChecks part) part (bytesOf (Action.Withdraw k)) (r .says)
+action-passed part (Action.Route s d) i r = accepted-passed (actionChecks part) part (bytesOf (Action.Route s d)) (r .says)
+
+module _ {part : List ℕ} {a : Action} where
+  pub part-of-ten : (b : Action) → IsAction b → ReadsAction part a → a ≡ b → length part ≡ 10
+  part-of-ten b i r e =
+      eqb-true (length part) 10 (not-false (eqb (length part) 10) (passed-nth (actionChecks part) 0 (action-passed part b i (rw e at r))))
+
+  pub fields-accepted : {before after : List ℕ} {k : ℕ} (b : Action) → IsAction b → ReadsAction part a → a ≡ b → FieldsWritten part before after k → ReadsFields part before after k
+  fields-accepted {before} b i r e w =
+      let p = action-passed part b i (rw e at r) in
+      record {
+        says = w .says ∙ ap packed (sym (passed-leaves refused (accepted (getD part 0 0 ∷ [])) (actionChecks part) (roomCheck before) p));
+        leaves = w .leaves ∙ sym (passed-leaves (λ k. before) (inOrder (fieldsOf part) ++ drop 7 before) (actionChecks part) (roomCheck before) p);
+      }
+
+  pub fields-refused : {before : List ℕ} {k : ℕ} {why : Refusal} → ReadsAction part a → a ≡ Action.Refused why → k ≡ numberOf why → ReadsFields part before before k
+  fields-refused {before} {k} {why} r e n =
+      let q : ReadsAction part (Action.Refused why) = rw e at r in
+      let g : Given (numberOf why) (fieldsChecks part before) = given-before (actionChecks part) (roomCheck before) (refused-given (actionChecks part) part (numberOf why) (q .says)) in
+      record {
+        says = n ∙ ap packed (sym (given-refuses refused (accepted (getD part 0 0 ∷ [])) (numberOf why) (fieldsChecks part before) g));
+        leaves = sym (given-refuses (λ k. before) (inOrder (fieldsOf part) ++ drop 7 before) (numberOf why) (fieldsChecks part before) g);
+      }
+
+-- with room for seven fields, and without
+pub room-short : {part before : List ℕ} {k : ℕ} → length before < 7 → k ≡ 13 → FieldsWritten part before before k
+room-short {part} {before} h e = record { says = rw (lt-ltb (length before) 7 h) e; leaves = rw (lt-ltb (length before) 7 h) refl }
+
+pub room-enough : {part before after : List ℕ} {k : ℕ} → 7 ≤ length before → k ≡ packed (accepted (getD part 0 0 ∷ [])) → after ≡ inOrder (fieldsOf part) ++ drop 7 before
+    → FieldsWritten part before after k
+room-enough {part} {before} h e f = record { says = rw (le-ltb (length before) 7 h) e; leaves = rw (le-ltb (length before) 7 h) f }

@@ -1,0 +1,39 @@
+-- Too little room, or the fields written and the first byte as the value.
+use native.Mathlib.Omega.{arith}
+use Rattle.fields.proofs.Promises.{room-short, room-enough}
+use borrow.Author.Needs.{needs}
+use Rattle.fields.proofs.written.Statement.{statement}
+use Rattle.fields.proofs.written.Tie as tie
+
+refused-requires : tie.Need-refused-requires
+refused-requires c κs = search needs
+
+returns : tie.Need-returns
+returns c = room-short (omega arith) (c .refused .ensures)
+
+write-requires : tie.Need-write-requires
+write-requires c κs = search needs
+
+shared-slice-read-value : tie.Need-shared-slice-read-value
+shared-slice-read-value c = search needs
+
+value-requires : tie.Need-value-requires
+value-requires c κs = search needs
+
+same-length : tie.Need-same-length
+same-length c = search needs
+
+returns-2 : tie.Need-returns-2
+returns-2 c = room-enough (omega arith) (c .value .ensures) (c .before .before .before .before .write .ensures)
+
+pub written-spec : {M : Type 1} → statement M
+written-spec =
+    tie.close
+    (tie.spec
+    refused-requires
+    returns
+    write-requires
+    shared-slice-read-value
+    value-requires
+    same-length
+    returns-2)
