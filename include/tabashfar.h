@@ -2,8 +2,13 @@
  *
  * A slice is two arguments, where its bytes start and how many there are. The bytes of a `const` slice are only read. Of lent memory
  * (`memory`) exactly what is said at the function is written, and nothing where the call is refused. A slice may be empty; its pointer
- * must not be null even then. Two slices of one call do not overlap. Nothing else is asked: every function is defined for every value of
- * its numbers and for all bytes of every length, keeps no state, allocates nothing, and returns.
+ * must not be null even then, and is aligned as C asks of its type. Two slices of one call do not overlap. Nothing else is asked: every
+ * function is defined for every value of its numbers and for all bytes of every length, keeps no state, allocates nothing, and returns.
+ *
+ * TO LINK: `rt staticlib face` writes target/staticlib/libface.a, for Linux on x86-64, position independent. Of the C library it needs
+ * memcpy and memmove alone. Every call uses less than 8 KiB of stack, the C library's part not counted, whatever the length of its slices;
+ * no function calls itself. trials/stack.c measures it: it fills a stack with a pattern, makes each call on it, and looks how far the
+ * pattern is gone.
  *
  * AN ANSWER is one number. Its low byte is the number of document 01's table, 0 where the call was accepted; the bits from 8 on are the
  * value that comes with it, 0 where the line below names none:
@@ -81,8 +86,24 @@ uint64_t tabashfar_has_action(const uint8_t *sheet, size_t sheet_len, size_t k);
  * not; the bits from 8 on are where in the sheet it starts. */
 uint64_t tabashfar_action_part(const uint8_t *sheet, size_t sheet_len, size_t k);
 
-/* Refuses 13, 2. Value: 1 files, 2 withdraws, 3 routes; the fields are the part's own bytes, by the layout of document 01. */
+/* Refuses 13, 2. Value: 1 files, 2 withdraws, 3 routes. */
 uint64_t tabashfar_read_action(const uint8_t *part, size_t part_len);
+
+/* The fields of an action, in document 01's order: where each stands in the memory of tabashfar_action_fields. */
+enum {
+    TABASHFAR_ACTION, /* 1 files, 2 withdraws, 3 routes */
+    TABASHFAR_NUMBER,
+    TABASHFAR_KIND, /* 1 links, 2 switch, 3 pattern */
+    TABASHFAR_STAGE, /* the column of kind 2 */
+    TABASHFAR_SWITCH, /* the value of kind 3; the source of a route */
+    TABASHFAR_MASK, /* the destination of a route */
+    TABASHFAR_SET,
+    TABASHFAR_FIELDS /* how many there are: seven */
+};
+
+/* Refuses as tabashfar_read_action does, then 13 where there is room for fewer than seven fields. Writes the seven fields at the front of
+ * the memory, the spare ones as 0. Value: as that of tabashfar_read_action. memory_len counts fields and not bytes. */
+uint64_t tabashfar_action_fields(const uint8_t *part, size_t part_len, uint16_t *memory, size_t memory_len);
 
 /* Runs a whole sheet, and writes every byte that it prints at the front of the memory. Refuses 13 where the memory is shorter than 24
  * bytes and 48 for each action (24 where the header is refused). Value: how many bytes it wrote. */

@@ -1,8 +1,11 @@
-//! Tabashfar for Rust: the entries of document 01 over slices, safe to call. The static library of the crate `face` is linked beside it;
-//! tabashfar.h says what each entry writes and answers.
+//! Tabashfar for Rust: the entries of document 01 over slices, safe to call, as a module of a program of edition 2018 or later. The static
+//! library of the crate `face` is linked beside it; tabashfar.h says what each entry writes and answers, and what linking needs.
+
+// a program calls the entries that it needs
+#![allow(dead_code)]
 
 mod raw {
-    extern "C" {
+    unsafe extern "C" {
         pub fn tabashfar_tag_to_steps(n: u8, source: u16, tag: u32, memory: *mut u8, memory_len: usize) -> u64;
         pub fn tabashfar_steps_to_tag(n: u8, source: u16, memory: *const u8, memory_len: usize) -> u64;
         pub fn tabashfar_normal_form(n: u8, source: u16, tag: u32) -> u64;
@@ -21,6 +24,7 @@ mod raw {
         pub fn tabashfar_has_action(sheet: *const u8, sheet_len: usize, k: usize) -> u64;
         pub fn tabashfar_action_part(sheet: *const u8, sheet_len: usize, k: usize) -> u64;
         pub fn tabashfar_read_action(part: *const u8, part_len: usize) -> u64;
+        pub fn tabashfar_action_fields(part: *const u8, part_len: usize, memory: *mut u16, memory_len: usize) -> u64;
         pub fn tabashfar_run(sheet: *const u8, sheet_len: usize, memory: *mut u8, memory_len: usize) -> u64;
     }
 }
@@ -108,9 +112,33 @@ pub fn action_part(sheet: &[u8], k: usize) -> &[u8] {
     &sheet[start..start + (part & 255) as usize]
 }
 
-/// 1 files, 2 withdraws, 3 routes; the fields are the part's own bytes.
+/// 1 files, 2 withdraws, 3 routes.
 pub fn read_action(part: &[u8]) -> Result<u8, Refused> {
     unpacked(unsafe { raw::tabashfar_read_action(part.as_ptr(), part.len()) }).map(|action| action as u8)
+}
+
+/// The seven fields of an action, in document 01's order, at the front of the memory; the answer is that of `read_action`.
+pub fn action_fields(part: &[u8], memory: &mut [u16]) -> Result<u8, Refused> {
+    let answer = unsafe { raw::tabashfar_action_fields(part.as_ptr(), part.len(), memory.as_mut_ptr(), memory.len()) };
+    unpacked(answer).map(|action| action as u8)
+}
+
+/// The fields of an action by name; the spare ones are 0.
+#[derive(Clone, Copy, PartialEq, Eq, Debug)]
+pub struct Fields {
+    pub action: u8,
+    pub number: u16,
+    pub kind: u8,
+    pub stage: u8,
+    pub switch: u16,
+    pub mask: u16,
+    pub set: u8,
+}
+
+pub fn fields(part: &[u8]) -> Result<Fields, Refused> {
+    let mut f = [0; 7];
+    action_fields(part, &mut f)?;
+    Ok(Fields { action: f[0] as u8, number: f[1], kind: f[2] as u8, stage: f[3] as u8, switch: f[4], mask: f[5], set: f[6] as u8 })
 }
 
 /// How many bytes of what the sheet prints lie at the front of the memory.

@@ -19,6 +19,7 @@ static void is(const char *what, uint64_t answer, unsigned number, uint64_t valu
 
 int main(void) {
     uint8_t memory[72] = {0};
+    uint16_t fields[TABASHFAR_FIELDS] = {0};
     const size_t len = sizeof sheet;
     is("tag_to_steps", tabashfar_tag_to_steps(3, 1, 8, memory, 3), 0, 0);
     is("steps_to_tag", tabashfar_steps_to_tag(3, 1, memory, 3), 0, 8);
@@ -35,9 +36,14 @@ int main(void) {
     is("header", tabashfar_header(sheet, len), 0, 3 + 256 * 1);
     is("has_action", tabashfar_has_action(sheet, len, 1), 13, 0);
     is("read_action", tabashfar_read_action(sheet + 8, 10), 0, 1);
+    is("action_fields", tabashfar_action_fields(sheet + 8, 10, fields, TABASHFAR_FIELDS), 0, 1);
     is("run", tabashfar_run(sheet, len, memory, 72), 0, 20);
     if (tabashfar_action_part(sheet, len, 0) != 10 + 256 * 8) {
         fprintf(stderr, "face.c: action_part does not say ten bytes at 8\n");
+        wrong = 1;
+    }
+    if (fields[TABASHFAR_NUMBER] != 7 || fields[TABASHFAR_KIND] != 1 || fields[TABASHFAR_SWITCH] != 1 || fields[TABASHFAR_SET] != 4) {
+        fprintf(stderr, "face.c: action_fields wrote something else\n");
         wrong = 1;
     }
     if (memcmp(memory, "SHEET 3 1\nFILE 7 OK\n", 20) != 0) {

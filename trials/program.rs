@@ -1,34 +1,88 @@
-//! The program itself: each sheet goes in through standard input in small pieces, and what it prints is handed on.
+//! The program itself, started once for each input: what it writes to standard output and to standard error, and its status. It ends with
+//! status 0 whatever happens, since a program in its language has no other.
 
+use crate::compared::Compared;
+use crate::draw::Draw;
+use crate::model;
+use crate::rows::sheet_of;
+use std::fs::File;
 use std::io::{Read, Write};
-use std::process::{Command, Stdio};
-use std::thread::{sleep, spawn};
+use std::process::{Child, Command, Stdio};
+use std::thread::{sleep, spawn, JoinHandle};
 use std::time::Duration;
 
-/// The words of the command that starts the program are in TRIALS_PROGRAM, one to a line; without it nothing is run.
-pub fn compare(sheets: &[Vec<u8>], mut each: impl FnMut(&[u8], &[u8])) {
-    let Ok(words) = std::env::var("TRIALS_PROGRAM") else {
+pub fn all(compared: &mut Compared, draw: &mut Draw) {
+    // the words of the command that starts the program, one to a line
+    let Ok(command) = std::env::var("TRIALS_PROGRAM") else {
         println!("trials: the program was not run: TRIALS_PROGRAM does not name it");
         return;
     };
-    let words: Vec<&str> = words.lines().collect();
-    for (k, sheet) in sheets.iter().enumerate() {
-        each(sheet, &printed(&words, sheet, 1 + k % 9));
+    let words: Vec<&str> = command.lines().collect();
+    for k in 0..40 {
+        prints_as_model(compared, &words, &small_sheet(draw, k), 1 + k as usize % 9);
+    }
+    for (k, sheet) in large_sheets(draw).iter().enumerate() {
+        prints_as_model(compared, &words, sheet, 700 + 1000 * k);
+    }
+    unreadable_inputs(compared, &words);
+    unwritable_outputs(compared, &words);
+}
+
+/// Whole sheets, damaged ones, none at all, and more than any sheet holds.
+fn small_sheet(draw: &mut Draw, k: u32) -> Vec<u8> {
+    let n = draw.size();
+    let near = draw.near(n);
+    let count = [3, 0, 60, 12][k as usize % 4];
+    let mut sheet = sheet_of(n, &draw.rows(n, &near, count));
+    match k % 8 {
+        1 => sheet.truncate(draw.below(9) as usize),
+        3 => sheet[draw.below(8) as usize] ^= 1,
+        5 => sheet.resize(50_000, 7),
+        _ => {}
+    }
+    sheet
+}
+
+/// Sheets up to the longest and one byte and one action beyond it. No two actions of a sheet are the same.
+fn large_sheets(draw: &mut Draw) -> Vec<Vec<u8>> {
+    let mut sheets: Vec<Vec<u8>> = [61, 255, 256, 257, 4095, 4096, 4097].map(|count| sheet_of(5, &draw.different_rows(5, count))).into();
+    let mut byte_more = sheets[5].clone();
+    byte_more.push(0);
+    sheets.push(byte_more);
+    sheets
+}
+
+/// What the program did: standard output, standard error and status.
+#[derive(PartialEq, Debug)]
+struct Did {
+    printed: String,
+    complained: String,
+    status: Option<i32>,
+}
+
+impl Did {
+    fn all_went_well(printed: Vec<u8>) -> Did {
+        Did { printed: String::from_utf8_lossy(&printed).into_owned(), complained: String::new(), status: Some(0) }
     }
 }
 
-/// What the program prints for a sheet that comes in pieces of so many bytes, the first ones with a pause after each.
-fn printed(words: &[&str], sheet: &[u8], piece: usize) -> Vec<u8> {
-    let mut child = Command::new(words[0])
-        .args(&words[1..])
-        .stdin(Stdio::piped())
-        .stdout(Stdio::piped())
-        .spawn()
-        .expect("the program starts");
+fn prints_as_model(compared: &mut Compared, words: &[&str], sheet: &[u8], piece: usize) {
+    let mut child = start(Command::new(words[0]).args(&words[1..]).stdin(Stdio::piped()).stdout(Stdio::piped()));
+    let writer = feed(&mut child, sheet.to_vec(), piece);
+    let did = ended(child);
+    writer.join().expect("the input was written");
+    compared.same("the program", did, Did::all_went_well(model::run(sheet)), || format!("sheet {sheet:?}"));
+}
+
+fn start(command: &mut Command) -> Child {
+    command.stderr(Stdio::piped()).spawn().expect("the program starts")
+}
+
+/// Writes the sheet in pieces of so many bytes, the first ones with a pause after each.
+fn feed(child: &mut Child, sheet: Vec<u8>, piece: usize) -> JoinHandle<()> {
     let mut input = child.stdin.take().expect("its standard input is a pipe");
-    let bytes = sheet.to_vec();
-    let writer = spawn(move || {
-        for (k, part) in bytes.chunks(piece).enumerate() {
+    spawn(move || {
+        for (k, part) in sheet.chunks(piece).enumerate() {
             // a program that has read enough closes its input
             if input.write_all(part).and_then(|_| input.flush()).is_err() {
                 break;
@@ -37,10 +91,51 @@ fn printed(words: &[&str], sheet: &[u8], piece: usize) -> Vec<u8> {
                 sleep(Duration::from_millis(1));
             }
         }
-    });
-    let mut text = Vec::new();
-    child.stdout.take().expect("its standard output is a pipe").read_to_end(&mut text).expect("what it prints can be read");
-    writer.join().expect("the input was written");
-    child.wait().expect("the program ends");
-    text
+    })
+}
+
+fn ended(mut child: Child) -> Did {
+    let (printed, complained) = (text(child.stdout.take()), text(child.stderr.take()));
+    Did { printed, complained, status: child.wait().expect("the program ends").code() }
+}
+
+fn text(stream: Option<impl Read>) -> String {
+    let mut bytes = Vec::new();
+    stream.map(|mut s| s.read_to_end(&mut bytes).expect("what it writes can be read"));
+    String::from_utf8_lossy(&bytes).into_owned()
+}
+
+/// Where nothing can be read nothing is run: no byte on standard output, and one line on standard error that names the stream.
+fn unreadable_inputs(compared: &mut Compared, words: &[&str]) {
+    let directory = File::open(".").expect("a directory opens");
+    let by_directory = start(Command::new(words[0]).args(&words[1..]).stdin(directory).stdout(Stdio::piped()));
+    complains(compared, "the program, a directory as input", ended(by_directory), "standard input");
+    let by_closed = start(closed("<&-", words).stdout(Stdio::piped()));
+    complains(compared, "the program, a closed input", ended(by_closed), "standard input");
+}
+
+/// Where not all can be written, the same on standard error.
+fn unwritable_outputs(compared: &mut Compared, words: &[&str]) {
+    let sheet = sheet_of(3, &[]);
+    let device = File::create("/dev/full").expect("the full device opens");
+    let mut by_device = start(Command::new(words[0]).args(&words[1..]).stdin(Stdio::piped()).stdout(device));
+    feed(&mut by_device, sheet.clone(), 8).join().expect("the input was written");
+    complains(compared, "the program, a full device as output", ended(by_device), "standard output");
+    let mut by_closed = start(closed(">&-", words).stdin(Stdio::piped()));
+    feed(&mut by_closed, sheet, 8).join().expect("the input was written");
+    complains(compared, "the program, a closed output", ended(by_closed), "standard output");
+}
+
+/// The program with one descriptor closed, by the shell's means.
+fn closed(descriptor: &str, words: &[&str]) -> Command {
+    let mut command = Command::new("sh");
+    command.args(["-c", &format!("exec \"$@\" {descriptor}"), "sh"]).args(words);
+    command
+}
+
+fn complains(compared: &mut Compared, entry: &'static str, did: Did, stream: &str) {
+    let one_line = did.complained.lines().count() == 1 && did.complained.ends_with('\n');
+    let names = did.complained.starts_with("desk: ") && did.complained.contains(stream);
+    let seen = (did.printed.as_str(), did.status, one_line, names);
+    compared.same(entry, seen, ("", Some(0), true, true), || format!("standard error {:?}", did.complained));
 }

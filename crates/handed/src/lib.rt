@@ -25,13 +25,13 @@ fn after_one(book: Book, action: Action) -> Book
     match action {
         Action::File(notice) => {
             let kept = book.file(notice);
-            let after = kept.book;
-            after
+            let filed = kept.book;
+            filed
         }
         Action::Withdraw(k) => {
             let kept = book.withdraw(k);
-            let after = kept.book;
-            after
+            let left = kept.book;
+            left
         }
         Action::Route {
             source: _,

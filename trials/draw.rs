@@ -1,0 +1,162 @@
+//! What the cases are drawn from. Good values are drawn most often; bad ones over the whole range of their type, those that are bad by one
+//! high bit alone among them.
+
+use crate::model::{Notice, Target};
+use crate::questions::Numbers;
+use crate::rows::{filing, question, withdrawal, Row};
+use std::collections::BTreeSet;
+
+pub struct Draw(pub Numbers);
+
+impl Draw {
+    pub fn below(&mut self, bound: u32) -> u32 {
+        self.0.below(bound)
+    }
+
+    pub fn one_in(&mut self, k: u32) -> bool {
+        self.below(k) == 0
+    }
+
+    fn any(&mut self) -> u64 {
+        u64::from(self.below(1 << 16)) << 48 | u64::from(self.below(1 << 24)) << 24 | u64::from(self.below(1 << 24))
+    }
+
+    /// A number of `width` bits that is not below 2^bits: the edge, one high bit over good low bits, or anything.
+    fn beyond(&mut self, bits: u32, width: u32) -> u64 {
+        let last = u64::MAX >> (64 - width);
+        if bits >= width {
+            return self.any() & last;
+        }
+        let low = self.any() & !(u64::MAX << bits);
+        match self.below(5) {
+            0 => 1 << bits,
+            1 => last,
+            2 => self.any() & last | 1 << bits,
+            _ => 1 << (bits + self.below(width - bits)) | low,
+        }
+    }
+
+    /// 1 to 12, or any byte.
+    pub fn size(&mut self) -> u8 {
+        if self.one_in(10) { self.below(256) as u8 } else { 1 + self.below(12) as u8 }
+    }
+
+    pub fn label(&mut self, n: u8) -> u16 {
+        let bits = u32::from(n.clamp(1, 12));
+        if self.one_in(12) { self.beyond(bits, 16) as u16 } else { self.below(1 << bits) as u16 }
+    }
+
+    pub fn tag(&mut self, n: u8) -> u32 {
+        let bits = 2 * u32::from(n.clamp(1, 12));
+        if self.one_in(8) { self.beyond(bits, 32) as u32 } else { self.below(1 << bits) }
+    }
+
+    pub fn code(&mut self) -> u8 {
+        if self.one_in(8) { self.below(256) as u8 } else { self.below(3) as u8 }
+    }
+
+    pub fn stage(&mut self, n: u8) -> u8 {
+        match self.below(16) {
+            0 => n,
+            1 => self.below(256) as u8,
+            _ => self.below(n.max(1).into()) as u8,
+        }
+    }
+
+    fn set(&mut self) -> u8 {
+        if self.one_in(12) { self.below(256) as u8 } else { 1 + self.below(7) as u8 }
+    }
+
+    /// Few numbers, so that they are used again, or any.
+    pub fn number(&mut self) -> u16 {
+        if self.one_in(12) { self.below(1 << 16) as u16 } else { self.below(61) as u16 }
+    }
+
+    /// An action's place in a sheet of so many: one that is there, or not, by a little or by a high bit alone.
+    pub fn place(&mut self, count: usize) -> usize {
+        let there = self.below(count.max(1) as u32) as usize;
+        match self.below(6) {
+            0 => count,
+            1 => there | 1 << (8 + self.below(56)),
+            2 => there + 256 * self.below(1 << 20) as usize,
+            3 => self.any() as usize,
+            _ => there,
+        }
+    }
+
+    pub fn bytes(&mut self, most: u32) -> Vec<u8> {
+        (0..self.below(most + 1)).map(|_| self.below(256) as u8).collect()
+    }
+
+    /// Steps for `steps_to_tag`, and sometimes a byte that is no code among them.
+    pub fn codes(&mut self, most: u32) -> Vec<u8> {
+        let mut codes: Vec<u8> = (0..self.below(most + 1)).map(|_| self.below(3) as u8).collect();
+        if !codes.is_empty() && self.one_in(4) {
+            let at = self.below(codes.len() as u32) as usize;
+            codes[at] = self.below(256) as u8;
+        }
+        codes
+    }
+
+    /// A few labels that questions and notices share.
+    pub fn near(&mut self, n: u8) -> Vec<u16> {
+        (0..4).map(|_| self.below(1 << n.clamp(1, 12)) as u16).collect()
+    }
+
+    /// A label near these, or any.
+    pub fn pick(&mut self, n: u8, near: &[u16]) -> u16 {
+        if self.one_in(2) { self.label(n) } else { near[self.below(near.len() as u32) as usize] }
+    }
+
+    /// A notice near these labels, so that several name one link and routes between them meet it.
+    pub fn notice(&mut self, n: u8, near: &[u16]) -> Notice {
+        let number = self.number();
+        let stage = self.stage(n);
+        let label = self.pick(n, near);
+        let size = 1u32 << n.clamp(1, 12);
+        let moved = ((u32::from(label) + (1 << self.below(n.clamp(1, 12).into()))) % size) as u16;
+        let switch = if self.one_in(3) { moved } else { label };
+        let target = match self.below(3) {
+            0 => Target::Links { stage, switch, set: self.set() },
+            1 => Target::Switch { column: stage.wrapping_add(self.below(2) as u8), switch },
+            _ => {
+                let mask = if self.one_in(12) { self.below(65536) } else { self.below(size) | self.below(size) } as u16;
+                let value = if self.one_in(12) { self.below(65536) as u16 } else { switch & mask };
+                Target::Pattern { stage, value, mask, set: self.set() }
+            }
+        };
+        Notice { number, target }
+    }
+
+    /// An action: a filing mostly, a withdrawal, a route, or bytes that are none of them.
+    pub fn row(&mut self, n: u8, near: &[u16]) -> Row {
+        match self.below(10) {
+            0..=5 => filing(self.notice(n, near)),
+            6 | 7 => withdrawal(self.number()),
+            8 => question(self.pick(n, near), self.pick(n, near)),
+            _ => {
+                let mut row = filing(self.notice(n, near));
+                row[self.below(10) as usize] ^= 1 << self.below(8);
+                row
+            }
+        }
+    }
+
+    pub fn rows(&mut self, n: u8, near: &[u16], count: u32) -> Vec<Row> {
+        (0..count).map(|_| self.row(n, near)).collect()
+    }
+
+    /// So many actions of which no two are the same.
+    pub fn different_rows(&mut self, n: u8, count: usize) -> Vec<Row> {
+        let near = self.near(n);
+        let mut seen = BTreeSet::new();
+        let mut rows = Vec::new();
+        while rows.len() < count {
+            let row = self.row(n, &near);
+            if seen.insert(row) {
+                rows.push(row);
+            }
+        }
+        rows
+    }
+}

@@ -1,0 +1,150 @@
+//! Every entry of document 01, once by the proved library and once by the model: what it answers, and each place of the memory lent to it.
+
+use crate::compared::Compared;
+use crate::face::{self, Refused};
+use crate::model::{self, Action, Book, Notice, Target};
+use crate::rows::{filing, sheet_of, withdrawal, Row};
+
+/// A refusal as the model gives it: the number, and at 11 the stage.
+fn told<T>(answer: Result<T, Refused>) -> Result<T, (u8, Option<u8>)> {
+    answer.map_err(|why| (why.number, if why.number == 11 { Some(why.stage) } else { None }))
+}
+
+fn number<T>(answer: Result<T, Refused>) -> Result<T, u8> {
+    answer.map_err(|why| why.number)
+}
+
+/// 0, or the table's number.
+fn code(answer: Result<(), Refused>) -> u8 {
+    answer.map_or_else(|why| why.number, |_| 0)
+}
+
+pub fn open(compared: &mut Compared, n: u8) {
+    compared.same("open", code(face::open(n)), model::open(n).1, || format!("n {n}"));
+}
+
+/// Tag to steps, steps to tag and the normal form.
+pub fn tags(compared: &mut Compared, n: u8, source: u16, tag: u32, memory: &[u8]) {
+    let case = || format!("n {n} source {source} tag {tag} memory {memory:?}");
+    let (mut proved, mut plain) = (memory.to_vec(), memory.to_vec());
+    let answers = (code(face::tag_to_steps(n, source, tag, &mut proved)), model::tag_to_steps(n, source, tag, &mut plain));
+    compared.same("tag to steps", (answers.0, proved), (answers.1, plain), case);
+    steps(compared, n, source, memory);
+    compared.same("normal form", number(face::normal_form(n, source, tag)), model::normal_form(n, source, tag), case);
+}
+
+pub fn steps(compared: &mut Compared, n: u8, source: u16, memory: &[u8]) {
+    let case = || format!("n {n} source {source} memory {memory:?}");
+    compared.same("steps to tag", number(face::steps_to_tag(n, source, memory)), model::steps_to_tag(n, source, memory), case);
+}
+
+pub fn route(compared: &mut Compared, sheet: &[u8], book: &Result<Book, u8>, source: u16, destination: u16) {
+    let plain = book.as_ref().map_err(|&k| (k, None)).and_then(|b| b.route(source, destination));
+    let entry = match plain {
+        Ok(_) => "route, a tag",
+        Err((11, _)) => "route, no clear path",
+        Err(_) => "route, refused",
+    };
+    compared.same(entry, told(face::route(sheet, source, destination)), plain, || format!("sheet {sheet:?} from {source} to {destination}"));
+}
+
+pub fn walk(compared: &mut Compared, sheet: &[u8], book: &Result<Book, u8>, source: u16, tag: u32) {
+    let plain = book.as_ref().map_err(|&k| (k, None)).and_then(|b| b.walk(source, tag));
+    compared.same("walk", told(face::walk(sheet, source, tag)), plain, || format!("sheet {sheet:?} source {source} tag {tag}"));
+}
+
+pub fn link(compared: &mut Compared, sheet: &[u8], book: &Result<Book, u8>, stage: u8, switch: u16, code: u8) {
+    let plain = book.as_ref().map_err(|&k| k).and_then(|b| b.link(stage, switch, code));
+    let case = || format!("sheet {sheet:?} stage {stage} switch {switch} code {code}");
+    compared.same("link", number(face::link(sheet, stage, switch, code)), plain, case);
+}
+
+pub fn listing(compared: &mut Compared, sheet: &[u8], book: &Result<Book, u8>, room: usize) {
+    let (mut proved, mut plain) = (vec![170; room], vec![170; room]);
+    let answer = book.as_ref().map_err(|&k| k).and_then(|b| b.listing(&mut plain));
+    compared.same("listing", (number(face::listing(sheet, &mut proved)), proved), (answer, plain), || format!("sheet {sheet:?} room {room}"));
+}
+
+fn proved_filing(sheet: &[u8], x: Notice) -> u8 {
+    code(match x.target {
+        Target::Links { stage, switch, set } => face::file_links(sheet, x.number, stage, switch, set),
+        Target::Switch { column, switch } => face::file_switch(sheet, x.number, column, switch),
+        Target::Pattern { stage, value, mask, set } => face::file_pattern(sheet, x.number, stage, value, mask, set),
+    })
+}
+
+pub fn file(compared: &mut Compared, sheet: &[u8], book: &Result<Book, u8>, notice: Notice) -> Result<Book, u8> {
+    let mut after = book.clone();
+    let plain = after.as_mut().map_or_else(|k| *k, |b| b.file(notice));
+    compared.same("file", proved_filing(sheet, notice), plain, || format!("sheet {sheet:?} {notice:?}"));
+    after
+}
+
+pub fn withdraw(compared: &mut Compared, sheet: &[u8], book: &Result<Book, u8>, withdrawn: u16) -> Result<Book, u8> {
+    let mut after = book.clone();
+    let plain = after.as_mut().map_or_else(|k| *k, |b| b.withdraw(withdrawn));
+    compared.same("withdraw", code(face::withdraw(sheet, withdrawn)), plain, || format!("sheet {sheet:?} withdraw {withdrawn}"));
+    after
+}
+
+/// File and withdraw, by what they answer and by the listing of the book that they hand back.
+pub fn changes(compared: &mut Compared, n: u8, rows: &[Row], book: &Result<Book, u8>, notice: Notice, withdrawn: u16) {
+    let sheet = sheet_of(n, rows);
+    let filed = file(compared, &sheet, book, notice);
+    listing(compared, &sheet_of(n, &[rows, &[filing(notice)]].concat()), &filed, 480);
+    let left = withdraw(compared, &sheet, book, withdrawn);
+    listing(compared, &sheet_of(n, &[rows, &[withdrawal(withdrawn)]].concat()), &left, 480);
+}
+
+pub fn header(compared: &mut Compared, sheet: &[u8]) {
+    compared.same("sheet header", number(face::header(sheet)), model::header(sheet), || format!("sheet {sheet:?}"));
+}
+
+/// Whether action k is there, and which bytes of the sheet it is.
+pub fn action_at(compared: &mut Compared, sheet: &[u8], k: usize) {
+    let case = || format!("sheet {sheet:?} k {k}");
+    compared.same("has action", number(face::has_action(sheet, k)), model::has_action(sheet, k), case);
+    let place = |part: &[u8]| (part.as_ptr() as usize - sheet.as_ptr() as usize, part.len());
+    compared.same("action part", place(face::action_part(sheet, k)), place(model::action_part(sheet, k)), case);
+}
+
+/// "action 8 bits, number 16, kind 8, stage 8, switch 16, mask 16, set 8", as the model's action has them.
+fn fields_of(action: Action) -> [u16; 7] {
+    match action {
+        Action::File(Notice { number, target }) => match target {
+            Target::Links { stage, switch, set } => [1, number, 1, stage.into(), switch, 0, set.into()],
+            Target::Switch { column, switch } => [1, number, 2, column.into(), switch, 0, 0],
+            Target::Pattern { stage, value, mask, set } => [1, number, 3, stage.into(), value, mask, set.into()],
+        },
+        Action::Withdraw(number) => [2, number, 0, 0, 0, 0, 0],
+        Action::Route { source, destination } => [3, 0, 0, 0, source, destination, 0],
+    }
+}
+
+/// The action reader: which action it is, its fields by name, and its fields in memory of so many places.
+pub fn action_reader(compared: &mut Compared, part: &[u8], room: usize) {
+    let plain = model::read_action(part).map(fields_of);
+    let case = || format!("part {part:?} room {room}");
+    compared.same("action reader", number(face::read_action(part)).map(u16::from), plain.map(|f| f[0]), case);
+    let by_name = |f: face::Fields| [f.action.into(), f.number, f.kind.into(), f.stage.into(), f.switch, f.mask, f.set.into()];
+    compared.same("fields of an action", number(face::fields(part)).map(by_name), plain, case);
+    let (mut proved, mut memory) = (vec![0xAAAA; room], vec![0xAAAA; room]);
+    let answer = plain.and_then(|f| if room < 7 { Err(13) } else { Ok(f) });
+    if let Ok(fields) = answer {
+        memory[..7].copy_from_slice(&fields);
+    }
+    let given = number(face::action_fields(part, &mut proved)).map(u16::from);
+    compared.same("fields in memory", (given, proved), (answer.map(|f| f[0]), memory), case);
+}
+
+/// Running a sheet; the model's text is right for any room, and the room asked for is include/tabashfar.h's.
+pub fn run(compared: &mut Compared, sheet: &[u8], room: usize) {
+    let count = model::header(sheet).map_or(0, |(_, count)| usize::from(count));
+    let (mut proved, mut plain) = (vec![170; room], vec![170; room]);
+    let text = model::run(sheet);
+    let answer = if room < 24 + 48 * count { Err(13) } else { Ok(text.len()) };
+    if answer.is_ok() {
+        plain[..text.len()].copy_from_slice(&text);
+    }
+    compared.same("running a sheet", (number(face::run(sheet, &mut proved)), proved), (answer, plain), || format!("sheet {sheet:?} room {room}"));
+}

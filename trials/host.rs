@@ -1,0 +1,38 @@
+//! A host in Rust, as README's link line builds it: calls every entry of include/tabashfar.rs once, on document 01's fabric of three stages.
+
+#[path = "../include/tabashfar.rs"]
+mod tabashfar;
+
+use tabashfar::{Fields, Refused};
+
+/// n = 3, one action: file 7, links, stage 0, switch 1, minus
+const SHEET: [u8; 18] = *b"FSH\0\x01\x03\0\x01\x01\0\x07\x01\0\0\x01\0\0\x04";
+
+fn refused<T>(number: u8) -> Result<T, Refused> {
+    Err(Refused { number, stage: 0 })
+}
+
+fn main() {
+    let mut memory = [0; 72];
+    assert_eq!(tabashfar::tag_to_steps(3, 1, 8, &mut memory[..3]), Ok(()));
+    assert_eq!(tabashfar::steps_to_tag(3, 1, &memory[..3]), Ok(8));
+    assert_eq!(tabashfar::normal_form(3, 1, 40), Ok(8));
+    assert_eq!(tabashfar::open(13), refused(1));
+    assert_eq!(tabashfar::file_links(&SHEET, 7, 0, 2, 1), refused(7));
+    assert_eq!(tabashfar::file_switch(&SHEET, 8, 4, 2), refused(4));
+    assert_eq!(tabashfar::file_pattern(&SHEET, 9, 0, 1, 1, 7), refused(6));
+    assert_eq!(tabashfar::withdraw(&SHEET, 9), refused(9));
+    assert_eq!(tabashfar::link(&SHEET, 0, 1, 2), Ok(true));
+    assert_eq!(tabashfar::listing(&SHEET, &mut memory[..10]), Ok(1));
+    assert_eq!(tabashfar::route(&SHEET, 1, 0), Ok(8));
+    assert_eq!(tabashfar::walk(&SHEET, 1, 0), refused(11));
+    assert_eq!(tabashfar::header(&SHEET), Ok((3, 1)));
+    assert_eq!(tabashfar::has_action(&SHEET, 1), refused(13));
+    let part = tabashfar::action_part(&SHEET, 0);
+    assert_eq!(part, &SHEET[8..]);
+    assert_eq!(tabashfar::read_action(part), Ok(1));
+    assert_eq!(tabashfar::action_fields(part, &mut [0; 6]), refused(13));
+    assert_eq!(tabashfar::fields(part), Ok(Fields { action: 1, number: 7, kind: 1, stage: 0, switch: 1, mask: 0, set: 4 }));
+    assert_eq!(tabashfar::run(&SHEET, &mut memory), Ok(20));
+    assert_eq!(&memory[..20], b"SHEET 3 1\nFILE 7 OK\n");
+}

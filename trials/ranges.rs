@@ -1,0 +1,157 @@
+//! Each argument over its whole range where that is small, and bit by bit where it is not.
+
+use crate::compared::Compared;
+use crate::draw::Draw;
+use crate::entries;
+use crate::model::{Notice, Target};
+use crate::rows::{book_of, filing, question, sheet_of, withdrawal, Row};
+
+pub fn all(compared: &mut Compared, draw: &mut Draw) {
+    sizes(compared);
+    for n in 1..=12 {
+        labels(compared, n);
+        tags(compared, draw, n);
+        codes(compared, draw, n);
+        notices(compared, n);
+    }
+    numbers(compared);
+    headers(compared);
+    counts(compared);
+    parts(compared);
+    (0..=9).for_each(|room| entries::action_reader(compared, &withdrawal(0xABCD), room));
+}
+
+/// n over all bytes.
+fn sizes(compared: &mut Compared) {
+    for n in 0..=255 {
+        entries::open(compared, n);
+        entries::tags(compared, n, 0, 0, &[0; 12]);
+        entries::header(compared, &sheet_of(n, &[]));
+        entries::run(compared, &sheet_of(n, &[question(0, 1)]), 72);
+    }
+}
+
+/// Sources, destinations and switches over all numbers of 16 bits that are no labels, and the labels at the edge.
+fn labels(compared: &mut Compared, n: u8) {
+    let sheet = sheet_of(n, &[]);
+    let book = book_of(&sheet);
+    for label in (1u16 << n) - 1..=u16::MAX {
+        entries::route(compared, &sheet, &book, label, 0);
+        entries::route(compared, &sheet, &book, 0, label);
+        entries::walk(compared, &sheet, &book, label, 0);
+        entries::link(compared, &sheet, &book, 0, label, 0);
+        if label % 16 == 0 {
+            entries::tags(compared, n, label, 0, &[0; 12]);
+        }
+    }
+}
+
+/// Tags that have one bit at 2n or above, over low bits that are zero, one or anything.
+fn tags(compared: &mut Compared, draw: &mut Draw, n: u8) {
+    let sheet = sheet_of(n, &[]);
+    let book = book_of(&sheet);
+    let good = 1u32 << (2 * n);
+    for position in 2 * n..32 {
+        for low in [0, good - 1, draw.below(good), draw.below(good)] {
+            let tag = low | 1 << position;
+            entries::tags(compared, n, 0, tag, &[0; 12]);
+            entries::walk(compared, &sheet, &book, 0, tag);
+        }
+    }
+}
+
+/// Every byte as the code of a link, and at every place among n steps.
+fn codes(compared: &mut Compared, draw: &mut Draw, n: u8) {
+    let sheet = sheet_of(n, &[]);
+    let book = book_of(&sheet);
+    for code in 0..=255 {
+        entries::link(compared, &sheet, &book, 0, 0, code);
+        for place in 0..usize::from(n) {
+            let mut steps: Vec<u8> = (0..n).map(|_| draw.below(3) as u8).collect();
+            steps[place] = code;
+            entries::steps(compared, n, 0, &steps);
+        }
+    }
+}
+
+/// Stages, columns, sets and masks of a notice over all their bytes and bits.
+fn notices(compared: &mut Compared, n: u8) {
+    let sheet = sheet_of(n, &[]);
+    let book = book_of(&sheet);
+    let mut file = |target| drop(entries::file(compared, &sheet, &book, Notice { number: 1, target }));
+    for byte in 0..=255 {
+        file(Target::Links { stage: byte, switch: 0, set: 1 });
+        file(Target::Links { stage: 0, switch: 0, set: byte });
+        file(Target::Switch { column: byte, switch: 0 });
+        file(Target::Pattern { stage: byte, value: 0, mask: 3, set: 7 });
+        file(Target::Pattern { stage: 0, value: 0, mask: 3, set: byte });
+    }
+    for high in 0..16 {
+        for low in 0..16 {
+            let mask = 1 << high | 1 << low;
+            file(Target::Pattern { stage: 0, value: mask, mask, set: 7 });
+            file(Target::Pattern { stage: 0, value: 1 << low, mask: 3, set: 7 });
+            file(Target::Links { stage: 0, switch: mask, set: 7 });
+            file(Target::Switch { column: 0, switch: mask });
+        }
+    }
+}
+
+/// Every number of 16 bits, filed and withdrawn where a few stand.
+fn numbers(compared: &mut Compared) {
+    let target = Target::Links { stage: 0, switch: 0, set: 1 };
+    let sheet = sheet_of(3, &[1, 2, 256, 257, 4096, 65535].map(|number| filing(Notice { number, target })));
+    let book = book_of(&sheet);
+    for number in 0..=u16::MAX {
+        entries::file(compared, &sheet, &book, Notice { number, target });
+        entries::withdraw(compared, &sheet, &book, number);
+    }
+}
+
+/// Every byte at every place of a header, and every part of one.
+fn headers(compared: &mut Compared) {
+    let sheet = sheet_of(3, &[question(0, 1)]);
+    for place in 0..8 {
+        for byte in 0..=255 {
+            let mut changed = sheet.clone();
+            changed[place] = byte;
+            entries::header(compared, &changed);
+        }
+    }
+    (0..sheet.len()).for_each(|length| entries::header(compared, &sheet[..length]));
+}
+
+/// Every count of 16 bits, in a sheet of the length that it asks for, of a byte less and of a byte more.
+fn counts(compared: &mut Compared) {
+    let mut bytes = vec![0; 8 + 10 * 65535 + 1];
+    bytes[..6].copy_from_slice(b"FSH\0\x01\x03");
+    for count in 0..=u16::MAX {
+        bytes[6..8].copy_from_slice(&count.to_be_bytes());
+        let length = 8 + 10 * usize::from(count);
+        for length in [8, length - 1, length, length + 1] {
+            entries::header(compared, &bytes[..length]);
+        }
+    }
+}
+
+/// Every byte at every place of an action, for each action and kind; parts of other lengths.
+fn parts(compared: &mut Compared) {
+    let rows: [Row; 5] = [
+        filing(Notice { number: 0x0102, target: Target::Links { stage: 3, switch: 0x0405, set: 6 } }),
+        filing(Notice { number: 0x0102, target: Target::Switch { column: 3, switch: 0x0405 } }),
+        filing(Notice { number: 0x0102, target: Target::Pattern { stage: 3, value: 0x0405, mask: 0x0607, set: 1 } }),
+        withdrawal(0x0102),
+        question(0x0102, 0x0304),
+    ];
+    for row in rows {
+        for place in 0..10 {
+            for byte in 0..=255 {
+                let mut part = row;
+                part[place] = byte;
+                entries::action_reader(compared, &part, 7);
+            }
+        }
+        let long = [row, row].concat();
+        (0..=20).for_each(|length| entries::action_reader(compared, &long[..length], 8));
+    }
+}
