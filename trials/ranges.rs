@@ -103,8 +103,8 @@ fn numbers(compared: &mut Compared) {
     let sheet = sheet_of(3, &[1, 2, 256, 257, 4096, 65535].map(|number| filing(Notice { number, target })));
     let book = book_of(&sheet);
     for number in 0..=u16::MAX {
-        entries::file(compared, &sheet, &book, Notice { number, target });
-        entries::withdraw(compared, &sheet, &book, number);
+        drop(entries::file(compared, &sheet, &book, Notice { number, target }));
+        drop(entries::withdraw(compared, &sheet, &book, number));
     }
 }
 
