@@ -15,7 +15,7 @@ use Rattle.book.proofs.Once.{opens-once, files-once, withdraws-once, lists-once
 use Rattle.actions.specs.declared.Action.{Action}
 use Rattle.actions.proofs.Actions.{action-once}
 use Rattle.sheet.specs.declared.Header.{Header}
-use Rattle.sheet.specs.Entries.{ReadsHeader, partOf}
+use Rattle.sheet.specs.Entries.{ReadsHeader}
 use Rattle.sheet.proofs.Sheets.{header-once}
 use Rattle.handed.specs.Books.{keptSays, Leaves, After, After.start, After.more, Over, OverSheet, ListedOver, ListsOver}
 
@@ -24,8 +24,16 @@ pub kept-says : (checks : List Check) (given made : Book) (k : Kept) → HandsBa
 kept-says checks given made k h = h .says
 
 leaves-once : (a : Action) (b c d : Book) → Leaves a b c → Leaves a b d → c ≡ d
-leaves-once (Action.File x) b c d p q = p .2 ∙ ap (λ (k : Kept). k .book) (files-once b x (p .0) (q .0) (p .1) (q .1)) ∙ sym (q .2)
-leaves-once (Action.Withdraw k) b c d p q = p .2 ∙ ap (λ (k : Kept). k .book) (withdraws-once b k (p .0) (q .0) (p .1) (q .1)) ∙ sym (q .2)
+leaves-once (Action.File x) b c d p q =
+    let same = ap (λ (k : Kept). k .book) (files-once b x (p .0) (q .0) (p .1) (q .1)) in
+    let one = p .2 in
+    let other = q .2 in
+    cc
+leaves-once (Action.Withdraw k) b c d p q =
+    let same = ap (λ (k : Kept). k .book) (withdraws-once b k (p .0) (q .0) (p .1) (q .1)) in
+    let one = p .2 in
+    let other = q .2 in
+    cc
 leaves-once (Action.Route s t) b c d p q = p ∙ sym q
 leaves-once (Action.Refused why) b c d p q = p ∙ sym q
 
@@ -34,7 +42,7 @@ pub after-once : (sheet : List ℕ) (n k : ℕ) (b c : Book) → After sheet n k
 after-once sheet n k b c (start {r = q} p) (start {r = r} o) = ap (λ (z : Kept). z .book) (opens-once n q r p o)
 after-once sheet n k b c (more {k = j} {b = b₁} {a = x} v r l) (more {b = b₂} {a = y} w s m) =
     let e = after-once sheet n j b₁ b₂ v w in
-    let a = action-once (partOf sheet j) x y r s in
+    let a = action-once _ x y r s in
     leaves-once y b₂ b c (rw (a, e) at l) m
 
 module _ (sheet : List ℕ) (answers : Book → ℕ → Type 0) (r : ℕ) (o : OverSheet sheet answers r) where
