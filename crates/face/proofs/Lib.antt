@@ -2,5 +2,5 @@
 pub mod Few
 -- no second answer, and no second memory
 pub mod Once
--- what a host reads off the header's number
-pub mod Headers
+-- what a host reads off a number
+pub mod Hosts

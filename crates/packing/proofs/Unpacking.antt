@@ -1,9 +1,12 @@
 -- What a host reads off a packed answer, by a remainder and a quotient.
 use mathlib.Core.Path.{_≡_, refl}
 use mathlib.Core.List.{List, [], _∷_}
-use Prim.Native.Nat.{ℕ, _/_, _%_, _<_}
+use Prim.Native.Nat.{ℕ, _/_, _%_, _≤_, _<_}
 use native.Mathlib.Omega.{arith}
-use Rattle.table.specs.Reply.{Reply}
+use Rattle.table.specs.declared.Refusal.{Refusal}
+use Rattle.table.specs.Numbers.{numberOf}
+use Rattle.table.specs.Reply.{Reply, refused}
+use Rattle.table.proofs.Numbers.{above-zero, below-seventeen}
 use Rattle.packing.specs.Packed.{valueOf, packed}
 
 -- one value is itself, and none reads as 0
@@ -25,3 +28,10 @@ accepted-unpacks (v ∷ vs) = (omega arith, omega arith)
 pub refused-unpacks : (k : ℕ) (vs : List ℕ) → k < 256 → (packed (Reply.refusedWith k vs) % 256 ≡ k) × (packed (Reply.refusedWith k vs) / 256 ≡ valueOf vs)
 refused-unpacks k [] h = (omega arith, omega arith)
 refused-unpacks k (v ∷ vs) h = (omega arith, omega arith)
+
+-- a refusal reads as its number, which is never 0: no refused call looks accepted
+pub refusal-shows : (why : Refusal) → (packed (refused (numberOf why)) % 256 ≡ numberOf why) × (1 ≤ packed (refused (numberOf why)) % 256)
+refusal-shows why =
+    let small = below-seventeen why in
+    let some = above-zero why in
+    (omega arith, omega arith)
