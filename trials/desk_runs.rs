@@ -23,6 +23,9 @@ refused, stands the line that it prints. The lines are those of a model in anoth
 (docs/TRUST.md). `sh trials/desk_runs` writes this file, `stdin` and `stdout`.
 ";
 
+/// How many bytes of standard input the crate reads.
+const READ: usize = 98_304;
+
 /// What the crate runs after the sheets: one of count 0 in 23 bytes of memory, which is too short, and in 24.
 const IN_SHORT_MEMORY: &str = "MEMORY REFUSED 13\n\nSHEET 3 0\n\n";
 
@@ -30,6 +33,7 @@ fn main() {
     let dir = std::env::args().nth(1).expect("the folder to write to");
     let sheets = desk_sheets::all();
     let input: Vec<u8> = sheets.iter().flat_map(|told| [&(told.sheet.len() as u16).to_be_bytes(), &told.sheet[..]].concat()).collect();
+    assert!(input.len() <= READ, "crates/desk_runs would not read all of {} bytes", input.len());
     let printed: String = sheets.iter().map(|told| printed(told) + "\n").collect();
     let about: String = sheets.iter().enumerate().map(|(k, told)| described(k + 1, told)).collect();
     let path = |name| Path::new(&dir).join(name);

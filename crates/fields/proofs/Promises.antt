@@ -14,7 +14,8 @@ use Rattle.packing.specs.Packed.{packed}
 use Rattle.actions.specs.declared.Action.{Action}
 use Rattle.actions.specs.Format.{IsAction, fieldsOf, bytesOf}
 use Rattle.actions.specs.Entries.{actionSays, actionChecks, ReadsAction}
-use Rattle.fields.specs.Fields.{inOrder, roomCheck, fieldsChecks, FieldsWritten, ReadsFields}
+use Rattle.fields.specs.Fields.{inOrder, roomCheck, fieldsChecks, ReadsFields}
+use Rattle.fields.specs.Written.{FieldsWritten}
 
 -- checks that are passed leave those after them
 passed-leaves {ℓ} : {A : Type ℓ} (refuse : ℕ → A) (accept : A) (cs ds : List Check) → Passed cs → checked (cs ++ ds) refuse accept ≡ checked ds refuse accept

@@ -37,8 +37,3 @@ fieldsChecks part memory = actionChecks part ++ roomCheck memory
 pub record ReadsFields (part before after : List ℕ) (r : ℕ) : Type 0 where
   pub says : r ≡ packed (checked (fieldsChecks part before) refused (Reply.accepted (getD part 0 0 ∷ [])))
   pub leaves : after ≡ checked (fieldsChecks part before) (λ k. before) (inOrder (fieldsOf part) ++ drop 7 before)
-
--- the same of a part that the action reader accepts, for the function that has only the room to check
-pub record FieldsWritten (part before after : List ℕ) (r : ℕ) : Type 0 where
-  pub says : r ≡ packed (checked (roomCheck before) refused (Reply.accepted (getD part 0 0 ∷ [])))
-  pub leaves : after ≡ checked (roomCheck before) (λ k. before) (inOrder (fieldsOf part) ++ drop 7 before)

@@ -8,7 +8,8 @@ ghost use mathlib.Core.List.{_++_};
 ghost use lib.ListN.{length, drop};
 ghost use Rattle.packing.specs.Packed.{packed};
 ghost use Rattle.actions.specs.Format.{fieldsOf};
-ghost use Rattle.fields.specs.Fields.{kindSays, inOrder, FieldsWritten, ReadsFields};
+ghost use Rattle.fields.specs.Fields.{kindSays, inOrder, ReadsFields};
+ghost use Rattle.fields.specs.Written.{FieldsWritten};
 
 // Which action it is: 1 files, 2 withdraws, 3 routes.
 pub fn kind(action: Action) -> u64
