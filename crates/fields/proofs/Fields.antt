@@ -2,18 +2,15 @@
 use mathlib.Core.Path.{_≡_, refl, sym, ap, _∙_}
 use mathlib.Core.List.{List, [], _∷_}
 use Prim.Native.Nat.{ℕ}
-use borrow.Author.Tests.{eqb-true, not-false}
-use lib.Dec.{eqb}
-use lib.ListN.{length, getD}
-use Rattle.table.specs.Reply.{Reply, Reply.accepted}
-use Rattle.table.specs.Checks.{Passed, numbers}
-use Rattle.table.proofs.Checks.{accepted-passed, passed-nth}
+use lib.ListN.{getD}
+use Rattle.table.specs.Reply.{Reply.accepted}
+use Rattle.table.specs.Checks.{numbers}
 use Rattle.notices.specs.declared.Target.{Target}
 use Rattle.notices.specs.declared.Target.the-variants.{Links, Switch, Pattern}
 use Rattle.notices.specs.Layout.{filingOf}
 use Rattle.actions.specs.declared.Action.{Action}
 use Rattle.actions.specs.Format.{IsAction, fieldsOf, bytesOf}
-use Rattle.actions.specs.Entries.{actionSays, actionChecks, ReadsAction}
+use Rattle.actions.specs.Entries.{ReadsAction}
 use Rattle.actions.proofs.Layouts.{word-read}
 use Rattle.actions.proofs.Actions.{read-is-written}
 use Rattle.fields.specs.Fields.{kindSays, inOrder, fieldsChecks}

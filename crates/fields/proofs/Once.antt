@@ -1,6 +1,6 @@
 -- The promise of the fields determines the number and each place of the lent memory, and says the same as the action reader.
 use mathlib.Core.Path.{_≡_, refl, sym, ap, _∙_}
-use mathlib.Core.List.{List, [], _∷_, _++_}
+use mathlib.Core.List.{List, _++_}
 use Prim.Native.Nat.{ℕ, _≤_, _<_}
 use lib.ListN.{length, drop}
 use Rattle.table.specs.declared.Refusal.{Refusal}

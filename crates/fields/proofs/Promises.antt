@@ -7,13 +7,13 @@ use lib.Dec.{eqb}
 use lib.ListN.{length, drop, getD}
 use Rattle.table.specs.declared.Refusal.{Refusal}
 use Rattle.table.specs.Numbers.{numberOf}
-use Rattle.table.specs.Reply.{Reply, Reply.accepted, refused}
+use Rattle.table.specs.Reply.{Reply.accepted, refused}
 use Rattle.table.specs.Checks.{Check, checked, Given, Passed, Passed.none, Passed.passes}
 use Rattle.table.proofs.Checks.{given-refuses, accepted-passed, refused-given, passed-nth, given-before}
 use Rattle.packing.specs.Packed.{packed}
 use Rattle.actions.specs.declared.Action.{Action}
 use Rattle.actions.specs.Format.{IsAction, fieldsOf, bytesOf}
-use Rattle.actions.specs.Entries.{actionSays, actionChecks, ReadsAction}
+use Rattle.actions.specs.Entries.{actionChecks, ReadsAction}
 use Rattle.fields.specs.Fields.{inOrder, roomCheck, fieldsChecks, ReadsFields}
 use Rattle.fields.specs.Written.{FieldsWritten}
 

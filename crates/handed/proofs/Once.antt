@@ -1,5 +1,5 @@
 -- A sheet makes one book, and an answer over it is that of this book: no second answer, and no second memory.
-use mathlib.Core.Path.{_≡_, refl, sym, ap, _∙_}
+use mathlib.Core.Path.{_≡_, sym, ap, _∙_}
 use mathlib.Core.List.{List, []}
 use Prim.Native.Nat.{ℕ}
 use Rattle.table.specs.declared.Refusal.{Refusal}

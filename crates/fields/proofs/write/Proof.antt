@@ -1,6 +1,5 @@
 -- Seven stores one after the other, each of what its call read: `sets-eq`.
 use mathlib.Core.Path.{refl}
-use Prim.Native.Nat.{_≤_}
 use native.Mathlib.Omega.{arith}
 use lib.ListN.{length-set}
 use lib.Seq.{sets-eq}
