@@ -1,68 +1,101 @@
 // Document 01, 'The sheet and what is printed': the program that the desk runs. It reads a sheet on standard input, runs it,
 // and writes the lines on standard output.
+use input::Input;
+use input::Output;
 use libc::STDERR_FILENO;
 use libc::STDIN_FILENO;
 use libc::STDOUT_FILENO;
-use printed::Ran;
+ghost use mathlib.Core.Path.{_≡_};
 ghost use Prim.Native.Nat.{_≤_};
 ghost use lib.ListN.{length};
-ghost use Rattle.desk.specs.Input.{Within};
+ghost use Rattle.input.specs.Answers.{Within};
+ghost use Rattle.desk.specs.Reads.{inputAt};
 
-// What reading standard input gives: how many bytes lie at the front of the memory, or that a read failed.
-pub enum Input {
-    Bytes(usize),
-    Failed,
-}
-
-// The longest sheet has 8 + 10 x 4,096 bytes. The memory holds one byte more, so that what was read of a longer input is no
-// sheet either: it answers 14, 1 or 15, and no more is read.
 fn main() {
-    let mut sheet = [0u8; 40969];
-    match read_input(&mut sheet) {
-        Input::Bytes(bytes) => print_run(&sheet, bytes),
-        Input::Failed => complain(b"desk: standard input could not be read; nothing was run\n"),
+    let mut sheet = [0u8; input::INPUT_ROOM];
+    let read = read_input(&mut sheet);
+    let mut lines = [0u8; input::TEXT_ROOM];
+    match input::run(&sheet, read, &mut lines) {
+        Output::Text(bytes) => print(&lines, bytes),
+        Output::Unread => complain(
+            b"desk: standard input could not be read",
+            b"; nothing was run\n",
+        ),
     }
 }
 
-// Reads until the input ends or the memory is full. A read may bring fewer bytes than there is room for.
+// Reads until the input ends, the memory is full or a read fails. A read may bring fewer bytes than there is room for.
 fn read_input(memory: &mut [u8]) -> Input
     ensures { λ r. ⌜ Within (length (now (memory .exit))) r ⌝ }
 {
     let mut bytes = 0;
     while bytes < memory.len() {
         let got = libc::read(STDIN_FILENO, &mut memory[bytes..]);
-        if got < 0 {
-            return Input::Failed;
-        }
         let more = io::count(got, &memory[bytes..]);
         if more == 0 {
-            return Input::Bytes(bytes);
+            return input_at(bytes, got);
         }
         bytes += more;
     }
     Input::Bytes(bytes)
 }
 
-// Runs the sheet at the front of the memory and writes what it prints. The lines have the 24 bytes, and 48 for each of 4,096
-// actions, that a run may ask for.
-fn print_run(memory: &[u8], bytes: usize)
-    requires { ⌜ bytes ≤ length (now memory) ⌝ }
+// What reading gives where a read brought nothing: the input has ended, or the read failed.
+fn input_at(bytes: usize, got: isize) -> Input
+    ensures { λ r. ⌜ r ≡ inputAt bytes got ⌝ }
 {
-    let mut lines = [0u8; 196632];
-    match printed::run(&memory[..bytes], &mut lines) {
-        Ran::Printed(text) => print(&lines, text),
-        Ran::Refused(_) => complain(b"desk: no room for what the sheet prints\n"),
+    if got < 0 {
+        return Input::Failed;
+    }
+    Input::Bytes(bytes)
+}
+
+fn print(lines: &[u8], bytes: usize)
+    requires { ⌜ bytes ≤ length (now lines) ⌝ }
+{
+    if !io::write_all(STDOUT_FILENO, &lines[..bytes]) {
+        complain(b"desk: standard output did not take all lines", b"\n");
     }
 }
 
-fn print(memory: &[u8], bytes: usize)
-    requires { ⌜ bytes ≤ length (now memory) ⌝ }
-{
-    if !io::write_all(STDOUT_FILENO, &memory[..bytes]) {
-        complain(b"desk: standard output did not take all lines\n");
+// Says on standard error what went wrong, and the cause that the system gives for it.
+fn complain(what: &[u8], then: &[u8]) {
+    let cause = number(os::errno());
+    say(what);
+    if 0 < cause {
+        say(b": ");
+        say_cause(cause);
+        say(b" (errno ");
+        io::print_decimal(STDERR_FILENO, cause);
+        say(b")");
+    }
+    say(then);
+}
+
+// The number of an error; the system has none below 1.
+fn number(errno: i32) -> u64 {
+    if errno < 0 {
+        return 0;
+    }
+    errno as u64
+}
+
+// The usual causes, in the system's words.
+fn say_cause(cause: u64) {
+    match cause {
+        4 => say(b"Interrupted system call"),
+        5 => say(b"Input/output error"),
+        9 => say(b"Bad file descriptor"),
+        11 => say(b"Resource temporarily unavailable"),
+        21 => say(b"Is a directory"),
+        22 => say(b"Invalid argument"),
+        27 => say(b"File too large"),
+        28 => say(b"No space left on device"),
+        32 => say(b"Broken pipe"),
+        _ => say(b"Other cause"),
     }
 }
 
-fn complain(text: &[u8]) {
+fn say(text: &[u8]) {
     io::write_all(STDERR_FILENO, text);
 }

@@ -67,18 +67,19 @@ runs-fit {sheet} {before} {after} {r} {bytes} w e = go (given-or-passed (runChec
         let l : length after ≡ length (q .0) + length (drop (length (q .0)) before) = ap length (q .3) ∙ length-append (q .0) (drop (length (q .0)) before) in
         omega arith
 
--- and within the room of the longest sheet
+-- no header that is accepted asks for more room than 4,096 actions do
+pub room-within : {sheet : List ℕ} (h : Header) → ReadsHeader sheet h → room h ≤ 196632
+room-within {sheet} (Header.Sheet n count) q =
+    let l = neither (4096 below countIn sheet) (not (eqb (length sheet) (bytesBefore (countIn sheet)))) (passed-nth (headerChecks sheet) 2 (header-passed q)) .0 in
+    let few = ltb-false 4096 (countIn sheet) l in
+    let same = header-fields q .1 in
+    omega arith
+room-within {sheet} (Header.Refused why) q = omega arith
+
+-- so what was printed lies within that room
 pub runs-within : {sheet before after : List ℕ} {r : Ran} {bytes : ℕ} → Runs sheet before r after → r ≡ Ran.Printed bytes → bytes ≤ 196632
 runs-within {sheet} {before} {after} {r} {bytes} w e = go (given-or-passed (runChecks (w .header) before))
   where
-    within : (h : Header) → ReadsHeader sheet h → room h ≤ 196632
-    within (Header.Sheet n count) q =
-        let l = neither (4096 below countIn sheet) (not (eqb (length sheet) (bytesBefore (countIn sheet)))) (passed-nth (headerChecks sheet) 2 (header-passed q)) .0 in
-        let few = ltb-false 4096 (countIn sheet) l in
-        let same = header-fields q .1 in
-        omega arith
-    within (Header.Refused why) q = omega arith
-
     go : ((k : ℕ) × Given k (runChecks (w .header) before)) ⊎ Passed (runChecks (w .header) before) → bytes ≤ 196632
     go (inl g) =
         let f : accepted (bytes ∷ []) ≡ refused (g .0) = sym (ap ranSays e) ∙ w .runs .refuses (g .0) (g .1) .0 in
@@ -88,5 +89,5 @@ runs-within {sheet} {before} {after} {r} {bytes} w e = go (given-or-passed (runC
         let f : accepted (bytes ∷ []) ≡ accepted (length (q .0) ∷ []) = sym (ap ranSays e) ∙ q .2 in
         let b : bytes ≡ length (q .0) = cc in
         let l = q .4 in
-        let m = within (w .header) (w .reads) in
+        let m = room-within (w .header) (w .reads) in
         omega arith

@@ -1,5 +1,7 @@
--- What was read lies within the memory.
+-- The memory has room for the longest sheet and one byte more, and the lines for the longest text.
+use native.Mathlib.Omega.{arith}
 use borrow.Author.Needs.{needs}
+use Rattle.input.proofs.Promises.{text-within}
 use Rattle.desk.proofs.main.Statement.{statement}
 use Rattle.desk.proofs.main.Tie as tie
 
@@ -9,20 +11,32 @@ slice-aggregate-read-input c = search needs
 read-input-requires : tie.Need-read-input-requires
 read-input-requires c κs = search needs
 
+slice-aggregate-run : tie.Need-slice-aggregate-run
+slice-aggregate-run c = search needs
+
+slice-aggregate-run-2 : tie.Need-slice-aggregate-run-2
+slice-aggregate-run-2 c = search needs
+
+run-requires : tie.Need-run-requires
+run-requires c κs = (search needs, search needs, c .before .before .before .read-input .ensures)
+
 enum-known-bytes : tie.Need-enum-known-bytes
 enum-known-bytes c = search needs
 
-slice-aggregate-print-run : tie.Need-slice-aggregate-print-run
-slice-aggregate-print-run c = search needs
+slice-aggregate-print : tie.Need-slice-aggregate-print
+slice-aggregate-print c = search needs
 
-print-run-requires : tie.Need-print-run-requires
-print-run-requires c κs = rw (c .before .before .bytes .given .1) at (c .before .before .before .before .before .read-input .ensures)
+print-requires : tie.Need-print-requires
+print-requires c κs = text-within (c .before .before .before .before .before .run .ensures) (c .before .before .bytes .given .1)
 
 enum-told : tie.Need-enum-told
 enum-told c = search needs
 
 slice-aggregate-complain : tie.Need-slice-aggregate-complain
 slice-aggregate-complain c = search needs
+
+slice-aggregate-complain-2 : tie.Need-slice-aggregate-complain-2
+slice-aggregate-complain-2 c = search needs
 
 complain-requires : tie.Need-complain-requires
 complain-requires c κs = search needs
@@ -39,11 +53,15 @@ main-spec =
     (tie.spec
     slice-aggregate-read-input
     read-input-requires
+    slice-aggregate-run
+    slice-aggregate-run-2
+    run-requires
     enum-known-bytes
-    slice-aggregate-print-run
-    print-run-requires
+    slice-aggregate-print
+    print-requires
     enum-told
     slice-aggregate-complain
+    slice-aggregate-complain-2
     complain-requires
     returns
     returns-2)

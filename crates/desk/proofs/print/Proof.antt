@@ -6,13 +6,16 @@ use Rattle.desk.proofs.print.Statement.{statement}
 use Rattle.desk.proofs.print.Tie as tie
 
 slice-aggregate-write-all : tie.Need-slice-aggregate-write-all
-slice-aggregate-write-all c = sym (length-take-le (c .before .before .args .bytes) (c .before .before .args .memory .now) (c .before .before .pre))
+slice-aggregate-write-all c = sym (length-take-le (c .before .before .args .bytes) (c .before .before .args .lines .now) (c .before .before .pre))
 
 write-all-requires : tie.Need-write-all-requires
 write-all-requires c κs = search needs
 
 slice-aggregate-complain : tie.Need-slice-aggregate-complain
 slice-aggregate-complain c = search needs
+
+slice-aggregate-complain-2 : tie.Need-slice-aggregate-complain-2
+slice-aggregate-complain-2 c = search needs
 
 complain-requires : tie.Need-complain-requires
 complain-requires c κs = search needs
@@ -30,6 +33,7 @@ print-spec =
     slice-aggregate-write-all
     write-all-requires
     slice-aggregate-complain
+    slice-aggregate-complain-2
     complain-requires
     returns
     returns-2)

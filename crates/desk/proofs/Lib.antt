@@ -1,0 +1,2 @@
+-- what a number below zero means to the program
+pub mod Signs

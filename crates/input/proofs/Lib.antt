@@ -1,0 +1,4 @@
+-- the longest sheet and the longest text, and the front of a longer input
+pub mod Rooms
+-- how a run of the input meets its promise, and that the promise leaves no second answer
+pub mod Promises

@@ -1,0 +1,102 @@
+-- The longest sheet that the header accepts, the longest text, and what the front of a longer input answers.
+use mathlib.Core.Path.{_≡_, refl, sym, ap, ap₂, _∙_}
+use mathlib.Core.Bool.{Bool, true, false, not, _||_}
+use mathlib.Core.List.{List, [], _∷_, _++_}
+use Prim.Native.Nat.{ℕ, _+_, _*_, _≤_, _<_}
+use native.Mathlib.Decide.{decLe}
+use native.Mathlib.Omega.{arith}
+use borrow.Author.Tests.{le-ltb, lt-ltb, ltb-false, eqb-true, not-false}
+use lib.Dec.{eqb}
+use lib.ListN.{length, take, getD}
+use lib.Seq.{length-take-le, getD-take, take-all}
+use Rattle.table.specs.Reply.{Reply.accepted, refused}
+use Rattle.table.specs.Checks.{Check, checked, _when_, _below_, Passed.none, Passed.passes}
+use Rattle.table.proofs.Checks.{passed-nth, neither, neither-of, one-of, other-of, unequal, equal}
+use Rattle.fabric.specs.Labels.{outsideSizes}
+use Rattle.sheet.specs.declared.Header.{Header}
+use Rattle.sheet.specs.Format.{headerBytes, sizeIn, countIn, bytesBefore}
+use Rattle.sheet.specs.Entries.{headerSays, wrongMark, wrongLength, headerChecks, ReadsHeader}
+use Rattle.sheet.proofs.Promises.{header-accepts, header-passed, header-fields}
+use Rattle.sheet.proofs.Sheets.{header-read}
+use Rattle.printed.specs.Runs.{room, Prints}
+use Rattle.printed.proofs.Promises.{room-within}
+use Rattle.input.specs.Rooms.{longestSheet, inputRoom, textRoom}
+
+-- a sheet that the header accepts is no longer than the longest,
+pub none-is-longer : {sheet : List ℕ} {n count : ℕ} → ReadsHeader sheet (Header.Sheet n count) → length sheet ≤ longestSheet
+none-is-longer {sheet} {n} {count} q =
+    let p = neither (4096 below countIn sheet) (not (eqb (length sheet) (bytesBefore (countIn sheet)))) (passed-nth (headerChecks sheet) 2 (header-passed q)) in
+    let few = ltb-false 4096 (countIn sheet) (p .0) in
+    let same = eqb-true (length sheet) (bytesBefore (countIn sheet)) (not-false (eqb (length sheet) (bytesBefore (countIn sheet))) (p .1)) in
+    omega arith
+
+-- and every sheet of 4,096 actions is that long, and accepted
+pub longest-is-accepted : (n : ℕ) (actions : List ℕ) → 1 ≤ n → n ≤ 12 → length actions ≡ 10 * 4096
+    → (length (headerBytes n 4096 ++ actions) ≡ longestSheet) × ReadsHeader (headerBytes n 4096 ++ actions) (Header.Sheet n 4096)
+longest-is-accepted n actions some few e =
+    let sheet = headerBytes n 4096 ++ actions in
+    let long : length sheet ≡ bytesBefore 4096 = omega arith in
+    let size : outsideSizes n ≡ false = neither-of (n below 1) (12 below n) (le-ltb n 1 some) (le-ltb 12 n few) in
+    let whole : wrongLength sheet ≡ false = equal long in
+    (long, header-accepts (passes (header-read n 4096 actions .2) (passes size (passes whole none))) refl)
+
+-- no run asks for more room than that of the longest sheet
+pub text-fits : {sheet : List ℕ} (h : Header) → ReadsHeader sheet h → room h ≤ textRoom
+text-fits h reads = room-within h reads
+
+-- the header's mark and size are read in the first eight bytes
+marks-agree : (input : List ℕ) (m : ℕ) → 8 ≤ m → 8 ≤ length input → 8 ≤ length (take m input) → wrongMark (take m input) ≡ wrongMark input
+marks-agree input m h long cut =
+    let same : (i : ℕ) → i < 8 → getD (take m input) i 0 ≡ getD input i 0 = λ i k. getD-take m input i 0 (omega arith) in
+    rw (le-ltb (length (take m input)) 8 cut, le-ltb (length input) 8 long, same 0 (omega arith), same 1 (omega arith), same 2 (omega arith), same 3 (omega arith), same 4 (omega arith))
+
+-- what is longer than the longest sheet has a wrong length, whatever count stands in it
+length-is-wrong : (sheet : List ℕ) → longestSheet < length sheet → wrongLength sheet ≡ true
+length-is-wrong sheet long = go (decLe (countIn sheet) 4096)
+  where
+    many : Bool
+    many = 4096 below countIn sheet
+
+    other : Bool
+    other = not (eqb (length sheet) (bytesBefore (countIn sheet)))
+
+    go : Dec (countIn sheet ≤ 4096) → wrongLength sheet ≡ true
+    go (yes few) = other-of many other (le-ltb 4096 (countIn sheet) few) (unequal (λ (e : length sheet ≡ bytesBefore (countIn sheet)). omega arith))
+    go (no more) = one-of many other (lt-ltb 4096 (countIn sheet) (omega arith))
+
+-- "14, 1, 15": such an input is refused, by its first eight bytes and for its length
+pub longer-is-refused : (input : List ℕ) (h : Header) → longestSheet < length input → ReadsHeader input h
+    → headerSays h ≡ checked ((14 when wrongMark (take 8 input)) ∷ (1 when outsideSizes (sizeIn (take 8 input))) ∷ []) refused (refused 15)
+longer-is-refused input h long reads =
+    let eight = length-take-le 8 input (omega arith) in
+    let mark = marks-agree input 8 (omega arith) (omega arith) (omega arith) in
+    let size : sizeIn (take 8 input) ≡ sizeIn input = getD-take 8 input 5 0 (omega arith) in
+    reads .says ∙ rw (length-is-wrong input long, mark, size)
+
+-- so the front of an input answers as all of it does, where the memory has room for the longest sheet and one byte more
+pub front-answers : (input : List ℕ) (m : ℕ) (h : Header) → inputRoom ≤ m → ReadsHeader (take m input) h → ReadsHeader input h
+front-answers input m h room reads = go (decLe (length input) m)
+  where
+    go : Dec (length input ≤ m) → ReadsHeader input h
+    go (yes all) = rw (take-all m input all) at reads
+    go (no more) =
+        let cut : length (take m input) ≡ m = length-take-le m input (omega arith) in
+        let mark = marks-agree input m (omega arith) (omega arith) (omega arith) in
+        let size : sizeIn (take m input) ≡ sizeIn input = getD-take m input 5 0 (omega arith) in
+        let wrong = length-is-wrong (take m input) (omega arith) in
+        record { says = reads .says ∙ rw (wrong, length-is-wrong input (omega arith), mark, size) }
+
+-- and what is printed of it is what is printed of all of it
+pub front-prints : (input : List ℕ) (m : ℕ) (h : Header) (text : List ℕ) → inputRoom ≤ m → ReadsHeader (take m input) h → Prints (take m input) h text → Prints input h text
+front-prints input m (Header.Refused why) text room reads p = p
+front-prints input m (Header.Sheet n count) text room reads p = rw same at p
+  where
+    same : take m input ≡ input
+    same = go (decLe (length input) m)
+      where
+        go : Dec (length input ≤ m) → take m input ≡ input
+        go (yes all) = take-all m input all
+        go (no more) =
+            let cut : length (take m input) ≡ m = length-take-le m input (omega arith) in
+            let few = none-is-longer reads in
+            absurd (omega arith)
