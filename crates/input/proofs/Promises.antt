@@ -1,12 +1,13 @@
 -- A run of the input writes the text of what was read, or nothing where a read failed; and there is no second answer.
 use mathlib.Core.Path.{_≡_, refl, sym, ap, _∙_}
+use mathlib.Core.Logic.{_↔_}
 use mathlib.Core.List.{List, [], _∷_, _++_}
 use Prim.Native.Nat.{ℕ, _+_, _≤_}
 use native.Mathlib.Decide.{decLe}
 use native.Mathlib.Omega.{arith}
 use borrow.Author.Tests.{le-ltb}
 use lib.ListN.{length, take, drop, length-append}
-use lib.Seq.{take-all, take-length, length-take-le}
+use lib.Seq.{take-all, take-length, length-take-le, take-append-seam}
 use Rattle.table.specs.Numbers.{numberOf}
 use Rattle.table.specs.declared.Refusal.{Refusal}
 use Rattle.table.specs.Reply.{Reply.accepted, refused}
@@ -86,6 +87,13 @@ some-input memory bytes = sym (go (decLe bytes (length memory)))
     go (yes few) = take-all (length memory) (take bytes memory) (let e = length-take-le bytes memory few in omega arith)
     go (no many) = rw (take-all bytes memory (omega arith)) (take-length memory)
 
+-- an input that is put at the front of the memory, as much of it as there is room for, is held there
+pub read-is-held : (input rest memory : List ℕ) → memory ≡ take (length memory) input ++ rest → Holds memory (length (take (length memory) input)) input
+read-is-held input rest memory e = ap (take (length front)) e ∙ take-append-seam front rest
+  where
+    front : List ℕ
+    front = take (length memory) input
+
 -- and in one way alone
 pub answers-once : (memory : List ℕ) (read : Input) (before : List ℕ) (q r : Output) (x y : List ℕ)
     → Answers memory read before q x → Answers memory read before r y → (q ≡ r) × (x ≡ y)
@@ -97,6 +105,13 @@ answers-once memory Input.Failed before q r x y v w =
     let a = v .failed refl in
     let b = w .failed refl in
     (a .0 ∙ sym (b .0), a .1 ∙ sym (b .1))
+
+-- nothing is written exactly where a read failed
+pub unread-exactly : {memory before after : List ℕ} (read : Input) {answer : Output} → Answers memory read before answer after → (answer ≡ Output.Unread) ↔ (read ≡ Input.Failed)
+unread-exactly {memory} (Input.Bytes bytes) w =
+    let v = w .whole bytes (take bytes memory) refl (some-input memory bytes) in
+    ((λ e. let f : Output.Unread ≡ Output.Text (length (v .text)) = sym e ∙ v .tells in absurd (zero-one cc)), (λ e. absurd (zero-one cc)))
+unread-exactly Input.Failed w = ((λ e. refl), (λ e. w .failed refl .0))
 
 -- and the text lies within the lines
 pub text-within : {memory before after : List ℕ} {read : Input} {answer : Output} {bytes : ℕ} → Answers memory read before answer after → answer ≡ Output.Text bytes → bytes ≤ length after

@@ -24,11 +24,13 @@ abbrev pub Within : ℕ → Input → Type 0
 Within room (Input.Bytes bytes) = bytes ≤ room
 Within room Input.Failed = Unit
 
--- the first bytes of the memory are the input, all of it or as much of it as the memory holds
+-- the first bytes of the memory are the input, all of it or as much of it as the memory holds: `read-is-held` says that this is so where
+-- what came was put there from the front on
 abbrev pub Holds : List ℕ → ℕ → List ℕ → Type 0
 Holds memory bytes input = take bytes memory ≡ take (length memory) input
 
--- what is answered and written, by what reading gave
+-- what is answered and written, by what reading gave. `unread-exactly` says that nothing is written exactly where a read failed, `answers-once`
+-- that no second answer is left.
 pub record Answers (memory : List ℕ) (read : Input) (before : List ℕ) (answer : Output) (after : List ℕ) : Type 0 where
   -- what was read is answered as the input that it is the front of
   pub whole : (bytes : ℕ) (input : List ℕ) → read ≡ Input.Bytes bytes → Holds memory bytes input → Writes input before answer after

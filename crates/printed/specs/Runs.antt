@@ -16,35 +16,39 @@ use Rattle.printed.specs.declared.Ran.{Ran}
 use Rattle.lines.specs.Text.{sheetLine, refusedSheet}
 use Rattle.words.specs.Wrote.{Wrote}
 
--- "starting from an empty book", "a line per action": the lines of a sheet's first actions, and the book after them
+-- "starting from an empty book", "a line per action": the lines of a sheet's first actions, and the book after them. `starts-empty`
+-- says how it starts, `action-line-at` that the line of each action stands in its place, `line-for-each` that there are so many.
 pub data Lines (sheet : List ℕ) (n : ℕ) : ℕ → List ℕ → Book → Type 0 where
   start : {r : Kept} → Opens n r → Lines sheet n 0 [] (r .book)
   more : {k : ℕ} {text next : List ℕ} {b c : Book} → Lines sheet n k text b → LineAt n b (partOf sheet k) next c → Lines sheet n (suc k) (text ++ next) c
 
--- all that is printed of a sheet with this header
+-- all that is printed of a sheet with this header: `first-line`, `every-action-printed` and `refused-text` say what stands where,
+-- `text-lines` how many lines there are
 abbrev pub Prints : List ℕ → Header → List ℕ → Type 0
 Prints sheet (Header.Sheet n count) text = (lines : List ℕ) × (b : Book) × Lines sheet n count lines b × (text ≡ sheetLine n count ++ lines)
 Prints sheet (Header.Refused why) text = text ≡ refusedSheet why
 
--- the room that a run asks for, whatever it prints: 24 bytes for the first line and 48 for each action
+-- the room that a run asks for, whatever it prints: 24 bytes for the first line and 48 for each action (`room-grows`)
 abbrev pub room : Header → ℕ
 room (Header.Sheet n count) = 24 + 48 * count
 room (Header.Refused why) = 24
 
+-- 13: "lent memory too short" (`run-order`, `thirteen-exactly`)
 abbrev pub runChecks : Header → List ℕ → List Check
 runChecks header memory = (13 when length memory below room header) ∷ []
 
--- the number and values of a run's answer: how many bytes it wrote
+-- the number and values of a run's answer: how many bytes it wrote (`printed-exactly`, `ran-numbered`)
 abbrev pub ranSays : Ran → Reply
 ranSays (Ran.Printed bytes) = Reply.accepted (bytes ∷ [])
 ranSays (Ran.Refused why) = refused (numberOf why)
 
--- a run writes what is printed at the front of the lent memory, within the room that it asks for; the rest stays
+-- a run writes what is printed at the front of the lent memory, within the room that it asks for; the rest stays (`front-and-rest`)
 abbrev pub Printed : List ℕ → Header → List ℕ → Ran → List ℕ → Type 0
 Printed sheet header before answer after =
     (text : List ℕ) × Prints sheet header text × (ranSays answer ≡ Reply.accepted (length text ∷ [])) × (after ≡ text ++ drop (length text) before)
     × (length text ≤ room header)
 
+-- where 13 is given nothing is written. `run-once` says that no second answer is left, nor a second text.
 pub record RunsBy (sheet : List ℕ) (header : Header) (before : List ℕ) (answer : Ran) (after : List ℕ) : Type 0 where
   pub refuses : (k : ℕ) → Given k (runChecks header before) → (ranSays answer ≡ refused k) × (after ≡ before)
   pub prints : Passed (runChecks header before) → Printed sheet header before answer after
