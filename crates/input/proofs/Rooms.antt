@@ -42,7 +42,7 @@ longest-is-accepted n actions some few e =
 
 -- no run asks for more room than that of the longest sheet
 pub text-fits : {sheet : List ℕ} (h : Header) → ReadsHeader sheet h → room h ≤ textRoom
-text-fits h reads = room-within h reads
+text-fits h reads = let e = room-within h reads in omega arith
 
 -- the header's mark and size are read in the first eight bytes
 marks-agree : (input : List ℕ) (m : ℕ) → 8 ≤ m → 8 ≤ length input → 8 ≤ length (take m input) → wrongMark (take m input) ≡ wrongMark input

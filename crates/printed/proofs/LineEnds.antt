@@ -21,7 +21,8 @@ use Rattle.answers.specs.Told.{told, foundTold}
 use Rattle.lines.specs.Text.{sheetLine}
 use Rattle.lines.specs.Lines.{LineOf}
 use Rattle.printed.specs.Runs.{Lines, Lines.start, Lines.more, Prints}
-use Rattle.printed.specs.LineEnds.{lineEnds}
+use Rattle.printed.specs.LineEnds.{lineEnds, linesOf}
+use Rattle.printed.proofs.Texts.{first-line, refused-text}
 
 ends-append : (a b : List ℕ) → lineEnds (a ++ b) ≡ lineEnds a + lineEnds b
 ends-append [] b = omega arith
@@ -109,21 +110,17 @@ line-for-each {n = n} (more {k = k} {text = text} {next = next} {b = b} {c = c} 
     let l = one .ends in
     omega arith
 
--- a text has so many lines: its first, and one for each action
-abbrev pub linesOf : Header → ℕ
-linesOf (Header.Sheet n count) = suc count
-linesOf (Header.Refused why) = 1
-
 first-one : (n count : ℕ) → OneLine (sheetLine n count)
 first-one n count = line-one SHEET (decimal n ∷ decimal count ∷ []) refl (number-plain n, (number-plain count, tt))
 
 pub text-lines : (sheet : List ℕ) (h : Header) (text : List ℕ) → Prints sheet h text → lineEnds text ≡ linesOf h
 text-lines sheet (Header.Sheet n count) text p =
-    let e = ap lineEnds (p .3) ∙ ends-append (sheetLine n count) (p .0) in
+    let w = first-line sheet n count text p in
+    let e = ap lineEnds (w .3) ∙ ends-append (sheetLine n count) (w .0) in
     let first = first-one n count .ends in
-    let rest = line-for-each (p .2) in
+    let rest = line-for-each (w .2) in
     omega arith
-text-lines sheet (Header.Refused why) text p = ap lineEnds p ∙ line-one SHEET (refusal why) refl (refusal-plain why) .ends
+text-lines sheet (Header.Refused why) text p = ap lineEnds (refused-text sheet why text p) ∙ line-one SHEET (refusal why) refl (refusal-plain why) .ends
 
 -- and LF is its last byte
 lines-closed : {sheet text : List ℕ} {n k : ℕ} {b : Book} → Lines sheet n k text b → (text ≡ []) ⊎ ((front : List ℕ) × (text ≡ front ++ 10 ∷ []))
@@ -133,18 +130,20 @@ lines-closed {n = n} (more {text = text} {next = next} {b = b} {c = c} v p) =
     inr (text ++ one .front, ap (λ (l : List ℕ). text ++ l) (one .closed) ∙ sym (append-assoc text (one .front) (10 ∷ [])))
 
 pub text-closed : (sheet : List ℕ) (h : Header) (text : List ℕ) → Prints sheet h text → (front : List ℕ) × (text ≡ front ++ 10 ∷ [])
-text-closed sheet (Header.Sheet n count) text p = go (lines-closed (p .2))
+text-closed sheet (Header.Sheet n count) text p = go (first-line sheet n count text p)
   where
     first : OneLine (sheetLine n count)
     first = first-one n count
 
-    go : (p .0 ≡ []) ⊎ ((front : List ℕ) × (p .0 ≡ front ++ 10 ∷ [])) → (front : List ℕ) × (text ≡ front ++ 10 ∷ [])
-    go (inl e) = (first .front, p .3 ∙ ap (λ (l : List ℕ). sheetLine n count ++ l) e ∙ append-nil (sheetLine n count) ∙ first .closed)
-    go (inr w) =
-        (sheetLine n count ++ w .0, p .3 ∙ ap (λ (l : List ℕ). sheetLine n count ++ l) (w .1) ∙ sym (append-assoc (sheetLine n count) (w .0) (10 ∷ [])))
+    end : (lines : List ℕ) → (lines ≡ []) ⊎ ((front : List ℕ) × (lines ≡ front ++ 10 ∷ [])) → (front : List ℕ) × (sheetLine n count ++ lines ≡ front ++ 10 ∷ [])
+    end lines (inl e) = (first .front, ap (λ (l : List ℕ). sheetLine n count ++ l) e ∙ append-nil (sheetLine n count) ∙ first .closed)
+    end lines (inr w) = (sheetLine n count ++ w .0, ap (λ (l : List ℕ). sheetLine n count ++ l) (w .1) ∙ sym (append-assoc (sheetLine n count) (w .0) (10 ∷ [])))
+
+    go : (lines : List ℕ) × (b : Book) × Lines sheet n count lines b × (text ≡ sheetLine n count ++ lines) → (front : List ℕ) × (text ≡ front ++ 10 ∷ [])
+    go w = let e = end (w .0) (lines-closed (w .2)) in (e .0, w .3 ∙ e .1)
 text-closed sheet (Header.Refused why) text p =
     let one = line-one SHEET (refusal why) refl (refusal-plain why) in
-    (one .front, p ∙ one .closed)
+    (one .front, refused-text sheet why text p ∙ one .closed)
 
 -- what is cut off the end of such a text takes a line's end with it
 cut-has-end : (part : List ℕ) (x : ℕ) (rest front : List ℕ) → part ++ x ∷ rest ≡ front ++ 10 ∷ [] → 1 ≤ lineEnds (x ∷ rest)

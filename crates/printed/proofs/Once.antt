@@ -14,7 +14,6 @@ use Rattle.book.specs.declared.Book.{Book}
 use Rattle.book.specs.declared.Kept.{Kept}
 use Rattle.book.proofs.Once.{opens-once}
 use Rattle.sheet.specs.declared.Header.{Header}
-use Rattle.sheet.specs.Entries.{partOf}
 use Rattle.sheet.proofs.Sheets.{header-once}
 use Rattle.lines.proofs.Once.{line-at-once}
 use Rattle.printed.specs.declared.Ran.{Ran}
@@ -26,7 +25,7 @@ pub lines-once : (sheet : List ℕ) (n k : ℕ) (x y : List ℕ) (b c : Book) �
 lines-once sheet n k x y b c (start {r = q} p) (start {r = r} o) = (refl, ap (λ (z : Kept). z .book) (opens-once n q r p o))
 lines-once sheet n k x y b c (more {k = j} {text = text₁} {next = next₁} {b = b₁} v p) (more {text = text₂} {next = next₂} {b = b₂} w q) =
     let e = lines-once sheet n j text₁ text₂ b₁ b₂ v w in
-    let l = line-at-once n b₂ (partOf sheet j) next₁ next₂ b c (rw (e .1) at p) q in
+    let l = line-at-once n b₂ _ next₁ next₂ b c (rw (e .1) at p) q in
     (ap₂ (λ (s t : List ℕ). s ++ t) (e .0) (l .0), l .1)
 
 pub prints-once : (sheet : List ℕ) (h : Header) (x y : List ℕ) → Prints sheet h x → Prints sheet h y → x ≡ y

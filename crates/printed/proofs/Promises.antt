@@ -6,12 +6,12 @@ use mathlib.Core.List.{List, [], _∷_}
 use Prim.Native.Nat.{ℕ, _+_, _≤_, _<_}
 use native.Mathlib.Nat.{zero-add}
 use native.Mathlib.Omega.{arith}
-use borrow.Author.Tests.{lt-ltb, le-ltb, ltb-false}
+use borrow.Author.Tests.{le-ltb, ltb-false}
 use lib.Dec.{eqb}
 use lib.ListN.{length, drop, length-append}
 use Rattle.table.specs.declared.Refusal.{Refusal}
 use Rattle.table.specs.Reply.{Reply.accepted, refused}
-use Rattle.table.specs.Checks.{Given, Given.here, Passed, Passed.none, Passed.passes, _below_}
+use Rattle.table.specs.Checks.{Given, Passed, Passed.none, Passed.passes, _below_}
 use Rattle.table.proofs.Checks.{given-or-passed, given-once, not-given-and-passed, passed-nth, neither, zero-one}
 use Rattle.sheet.specs.declared.Header.{Header}
 use Rattle.sheet.specs.Format.{sizeIn, countIn, bytesBefore}
@@ -20,6 +20,7 @@ use Rattle.sheet.proofs.Promises.{header-passed, header-fields}
 use Rattle.printed.specs.declared.Ran.{Ran}
 use Rattle.words.specs.Wrote.{Wrote}
 use Rattle.words.proofs.Writing.{wrote-front}
+use Rattle.printed.proofs.Texts.{thirteen-exactly}
 use Rattle.printed.specs.Runs.{Prints, room, runChecks, ranSays, RunsBy, Runs}
 
 -- a header that is accepted has a size that fits
@@ -34,7 +35,7 @@ few-stages {sheet} {h} {n} {count} reads e =
 module _ (sheet : List ℕ) (header : Header) (before : List ℕ) where
   pub runs-short : length before < room header → RunsBy sheet header before (Ran.Refused Refusal.Room) before
   runs-short h =
-      let g : Given 13 (runChecks header before) = here (lt-ltb (length before) (room header) h) refl in
+      let g = thirteen-exactly header before .1 h in
       record {
         refuses = λ k j. (ap refused (given-once 13 k (runChecks header before) g j), refl);
         prints = λ p. absurd (not-given-and-passed 13 (runChecks header before) g p);

@@ -1,5 +1,5 @@
 -- What a run's answer says, when 13 is given, how much room is asked for, and what stands where in a text.
-use mathlib.Core.Path.{_≡_, refl, sym, ap, _∙_}
+use mathlib.Core.Path.{_≡_, refl, sym, ap, subst, _∙_}
 use mathlib.Core.Bool.{false}
 use mathlib.Core.Logic.{_⊎_, inl, inr, _↔_}
 use mathlib.Core.List.{List, [], _∷_, _++_, append-assoc, append-nil}
@@ -70,10 +70,10 @@ pub refused-text : (sheet : List ℕ) (why : Refusal) (text : List ℕ) → Prin
     → text ≡ 83 ∷ 72 ∷ 69 ∷ 69 ∷ 84 ∷ 32 ∷ 82 ∷ 69 ∷ 70 ∷ 85 ∷ 83 ∷ 69 ∷ 68 ∷ 32 ∷ decimal (numberOf why) ++ 10 ∷ []
 refused-text sheet why text p = p
 
--- "SHEET n count"
+-- "SHEET n count", and the lines of as many actions
 pub first-line : (sheet : List ℕ) (n count : ℕ) (text : List ℕ) → Prints sheet (Header.Sheet n count) text
-    → (lines : List ℕ) × (text ≡ (83 ∷ 72 ∷ 69 ∷ 69 ∷ 84 ∷ 32 ∷ (decimal n ++ 32 ∷ (decimal count ++ 10 ∷ []))) ++ lines)
-first-line sheet n count text p = (p .0, p .3)
+    → (lines : List ℕ) × (b : Book) × Lines sheet n count lines b × (text ≡ (83 ∷ 72 ∷ 69 ∷ 69 ∷ 84 ∷ 32 ∷ (decimal n ++ 32 ∷ (decimal count ++ 10 ∷ []))) ++ lines)
+first-line sheet n count text p = p
 
 -- "starting from an empty book"
 pub starts-empty : {sheet text : List ℕ} {n : ℕ} {b : Book} → outsideSizes n ≡ false → Lines sheet n 0 text b → (text ≡ []) × (b .n ≡ n) × (standing b ≡ [])
@@ -114,7 +114,7 @@ action-line-at {sheet = sheet} {n = n} j h (more {k = i} {text = text} {next = n
           before = b;
           after = c;
           earlier = rw same at v;
-          tells = rw same at p;
+          tells = subst (λ (x : ℕ). LineAt n b (partOf sheet x) next c) same p;
           stands = ap (λ (l : List ℕ). text ++ l) (sym (append-nil next));
         }
 

@@ -15,7 +15,10 @@ add-if1 : tie.Need-add-if1
 add-if1 c = search needs
 
 returns : tie.Need-returns
-returns c = let a = c .before .before .before .args in runs-short (a .sheet .now) (Header.Sheet (a .n) (a .count)) (a .out .now) (c .if1 .taken)
+returns c =
+    let a = c .before .before .before .args in
+    let short = c .if1 .taken in
+    runs-short (a .sheet .now) (Header.Sheet (a .n) (a .count)) (a .out .now) (omega arith)
 
 sheet-line-requires : tie.Need-sheet-line-requires
 sheet-line-requires c κs = search needs
@@ -32,7 +35,8 @@ returns-2 c =
     let first = c .before .before .before .before .before .before .sheet-line .ensures .0 in
     let b = c .before .before .lines .ensures .0 in
     let w = c .before .before .lines .ensures .1 in
-    runs-whole (a .sheet .now) (Header.Sheet (a .n) (a .count)) (a .out .now) (c .before .before .before .before .before .before .before .before .if1 .left) (w .text, b, w .tells, refl) (wrote-more (a .out .now) 0 (omega arith) first (w .wrote))
+    let enough = c .before .before .before .before .before .before .before .before .if1 .left in
+    runs-whole (a .sheet .now) (Header.Sheet (a .n) (a .count)) (a .out .now) (omega arith) (w .text, b, w .tells, refl) (wrote-more (a .out .now) 0 (omega arith) first (w .wrote))
     (let s = w .short in let f = c .before .before .before .before .before .before .sheet-line .ensures .1 in omega arith)
 
 pub whole-sheet-spec : {M : Type 1} → statement M
