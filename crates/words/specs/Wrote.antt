@@ -1,4 +1,4 @@
--- How the functions that write speak to each other. Not document 01's: `Runs` is what they lead to.
+-- How the functions that write speak to each other. Not document 01's: `Runs` of printed is what they lead to.
 use mathlib.Core.Path.{_≡_}
 use mathlib.Core.List.{List, _++_}
 use Prim.Native.Nat.{ℕ, _+_}
