@@ -105,25 +105,28 @@ fn text(stream: Option<impl Read>) -> String {
     String::from_utf8_lossy(&bytes).into_owned()
 }
 
-/// Where nothing can be read nothing is run: no byte on standard output, and one line on standard error that names the stream.
+/// Where nothing can be read nothing is run: no byte on standard output, and one line on standard error that names the stream and the
+/// cause.
 fn unreadable_inputs(compared: &mut Compared, words: &[&str]) {
+    let complaint = |cause: &str| format!("desk: standard input could not be read: {cause}; nothing was run\n");
     let directory = File::open(".").expect("a directory opens");
     let by_directory = start(Command::new(words[0]).args(&words[1..]).stdin(directory).stdout(Stdio::piped()));
-    complains(compared, "the program, a directory as input", ended(by_directory), "standard input");
+    complains(compared, "the program, a directory as input", ended(by_directory), complaint("Is a directory (errno 21)"));
     let by_closed = start(closed("<&-", words).stdout(Stdio::piped()));
-    complains(compared, "the program, a closed input", ended(by_closed), "standard input");
+    complains(compared, "the program, a closed input", ended(by_closed), complaint("Bad file descriptor (errno 9)"));
 }
 
 /// Where not all can be written, the same on standard error.
 fn unwritable_outputs(compared: &mut Compared, words: &[&str]) {
+    let complaint = |cause: &str| format!("desk: standard output did not take all lines: {cause}\n");
     let sheet = sheet_of(3, &[]);
     let device = File::create("/dev/full").expect("the full device opens");
     let mut by_device = start(Command::new(words[0]).args(&words[1..]).stdin(Stdio::piped()).stdout(device));
     feed(&mut by_device, sheet.clone(), 8).join().expect("the input was written");
-    complains(compared, "the program, a full device as output", ended(by_device), "standard output");
+    complains(compared, "the program, a full device as output", ended(by_device), complaint("No space left on device (errno 28)"));
     let mut by_closed = start(closed(">&-", words).stdin(Stdio::piped()));
     feed(&mut by_closed, sheet, 8).join().expect("the input was written");
-    complains(compared, "the program, a closed output", ended(by_closed), "standard output");
+    complains(compared, "the program, a closed output", ended(by_closed), complaint("Bad file descriptor (errno 9)"));
 }
 
 /// The program with one descriptor closed, by the shell's means.
@@ -133,9 +136,6 @@ fn closed(descriptor: &str, words: &[&str]) -> Command {
     command
 }
 
-fn complains(compared: &mut Compared, entry: &'static str, did: Did, stream: &str) {
-    let one_line = did.complained.lines().count() == 1 && did.complained.ends_with('\n');
-    let names = did.complained.starts_with("desk: ") && did.complained.contains(stream);
-    let seen = (did.printed.as_str(), did.status, one_line, names);
-    compared.same(entry, seen, ("", Some(0), true, true), || format!("standard error {:?}", did.complained));
+fn complains(compared: &mut Compared, entry: &'static str, did: Did, complained: String) {
+    compared.same(entry, did, Did { printed: String::new(), complained, status: Some(0) }, String::new);
 }
