@@ -28,7 +28,7 @@ use Rattle.book.specs.declared.Link.{Link}
 use Rattle.book.specs.declared.Listing.{Listing}
 use Rattle.standing.specs.Rising.{stands, Filed}
 use Rattle.standing.specs.Rows.{rows}
-use Rattle.book.specs.Standing.{standing, bookOf, unsound, Stopped, stopper, stopsOf}
+use Rattle.book.specs.Standing.{standing, unsound, Stopped, stopper, stopsOf}
 use Rattle.book.specs.Entries.{answerSays, linkSays, listingSays, HandsBack, openChecks, opened, Opens, fileChecks, Files, withdrawChecks, Withdraws, linkChecks, Tests, listingChecks, Lists}
 use Rattle.standing.proofs.Listings.{length-rows}
 use Rattle.standing.proofs.Members.{stands-member, member-stands}

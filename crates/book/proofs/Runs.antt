@@ -1,12 +1,11 @@
 -- What the words for runs mean: one change after the other, each accepted in its turn, a number not withdrawn, a book that is produced.
 use mathlib.Core.Path.{_≡_, refl, sym, ap, subst, _∙_}
-use mathlib.Core.List.{List, [], _∷_, _++_, append-nil}
+use mathlib.Core.List.{List, [], _∷_, _++_}
 use mathlib.Core.Logic.{_↔_}
 use Prim.Native.Nat.{ℕ, _≤_}
 use Rattle.table.proofs.Checks.{zero-one, accepted-passed, passed-accepts}
 use Rattle.table.specs.Reply.{Reply, refused}
 use Rattle.book.specs.declared.Book.{Book}
-use Rattle.book.specs.Standing.{bookOf}
 use Rattle.book.specs.Entries.{openChecks, opened}
 use Rattle.book.specs.Runs.{Change, after, Accepted, run, AllAccepted, Reachable, NotWithdrawn}
 use Rattle.book.proofs.Entries.{open-lets-pass}
