@@ -92,8 +92,8 @@ module _ {sheet : List ℕ} {k : ℕ} where
       sym (given-refuses (λ j. []) (take 10 (drop (bytesBefore k) sheet)) (numberOf why) (thereChecks sheet k) (there-given {why = why} (rw e at r)))
 
   -- and where the part starts
-  pub start-there : {t : There} → HasAction sheet k t → t ≡ There.Yes → bytesBefore k ≡ startOf sheet k
-  start-there r e = sym (passed-accepts (λ j. 0) (bytesBefore k) (thereChecks sheet k) (there-passed (rw e at r)))
-
   pub start-nowhere : {t : There} {why : Refusal} → HasAction sheet k t → t ≡ There.Refused why → 0 ≡ startOf sheet k
   start-nowhere {t} {why} r e = sym (given-refuses (λ j. 0) (bytesBefore k) (numberOf why) (thereChecks sheet k) (there-given {why = why} (rw e at r)))
+
+  pub start-there : {t : There} → HasAction sheet k t → t ≡ There.Yes → bytesBefore k ≡ startOf sheet k
+  start-there r e = sym (passed-accepts (λ j. 0) (bytesBefore k) (thereChecks sheet k) (there-passed (rw e at r)))
