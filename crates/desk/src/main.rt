@@ -60,16 +60,32 @@ fn print(lines: &[u8], bytes: usize)
 
 // Says on standard error what went wrong, and the cause that the system gives for it.
 fn complain(what: &[u8], then: &[u8]) {
-    let cause = number(os::errno());
+    let errno = os::errno();
     say(what);
-    if 0 < cause {
+    if errno != 0 {
         say(b": ");
-        say_cause(cause);
+        say_cause(errno);
         say(b" (errno ");
-        io::print_decimal(STDERR_FILENO, cause);
+        io::print_decimal(STDERR_FILENO, number(errno));
         say(b")");
     }
     say(then);
+}
+
+// The usual causes, in the system's words.
+fn say_cause(errno: i32) {
+    match errno {
+        libc::EINTR => say(b"Interrupted system call"),
+        libc::EIO => say(b"Input/output error"),
+        libc::EBADF => say(b"Bad file descriptor"),
+        libc::EAGAIN => say(b"Resource temporarily unavailable"),
+        libc::EISDIR => say(b"Is a directory"),
+        libc::EINVAL => say(b"Invalid argument"),
+        libc::EFBIG => say(b"File too large"),
+        libc::ENOSPC => say(b"No space left on device"),
+        libc::EPIPE => say(b"Broken pipe"),
+        _ => say(b"Other cause"),
+    }
 }
 
 // The number of an error; the system has none below 1.
@@ -78,22 +94,6 @@ fn number(errno: i32) -> u64 {
         return 0;
     }
     errno as u64
-}
-
-// The usual causes, in the system's words.
-fn say_cause(cause: u64) {
-    match cause {
-        4 => say(b"Interrupted system call"),
-        5 => say(b"Input/output error"),
-        9 => say(b"Bad file descriptor"),
-        11 => say(b"Resource temporarily unavailable"),
-        21 => say(b"Is a directory"),
-        22 => say(b"Invalid argument"),
-        27 => say(b"File too large"),
-        28 => say(b"No space left on device"),
-        32 => say(b"Broken pipe"),
-        _ => say(b"Other cause"),
-    }
 }
 
 fn say(text: &[u8]) {
