@@ -1,10 +1,11 @@
 -- What the action reader gives for each action: which it is, and its seven fields.
 use mathlib.Core.Path.{_≡_, refl, sym, ap, _∙_}
+use mathlib.Core.Bool.{true, false}
 use mathlib.Core.List.{List, [], _∷_}
 use Prim.Native.Nat.{ℕ}
 use lib.ListN.{getD}
 use Rattle.table.specs.Reply.{Reply.accepted}
-use Rattle.table.specs.Checks.{numbers}
+use Rattle.table.specs.Checks.{numbers, _when_}
 use Rattle.notices.specs.declared.Target.{Target}
 use Rattle.notices.specs.declared.Target.the-variants.{Links, Switch, Pattern}
 use Rattle.notices.specs.Layout.{filingOf}
@@ -13,11 +14,18 @@ use Rattle.actions.specs.Format.{IsAction, fieldsOf, bytesOf}
 use Rattle.actions.specs.Entries.{ReadsAction}
 use Rattle.actions.proofs.Layouts.{word-read}
 use Rattle.actions.proofs.Actions.{read-is-written}
-use Rattle.fields.specs.Fields.{kindSays, inOrder, fieldsChecks}
+use Rattle.fields.specs.Fields.{kindSays, inOrder, roomCheck, fieldsChecks}
 
 -- the order of the checks
 pub fields-order : (part memory : List ℕ) → numbers (fieldsChecks part memory) ≡ 13 ∷ 2 ∷ 13 ∷ []
 fields-order part memory = refl
+
+-- "lent memory too short": seven places are enough, and six are not
+pub seven-are-enough : roomCheck (0 ∷ 0 ∷ 0 ∷ 0 ∷ 0 ∷ 0 ∷ 0 ∷ []) ≡ (13 when false) ∷ []
+seven-are-enough = refl
+
+pub six-are-too-few : roomCheck (0 ∷ 0 ∷ 0 ∷ 0 ∷ 0 ∷ 0 ∷ []) ≡ (13 when true) ∷ []
+six-are-too-few = refl
 
 -- the fields of each action, "action, number, kind, stage, switch, mask, set": "kind 1: mask zero", "kind 2: stage holds the column, mask and
 -- set zero", "kind 3: switch holds the value"

@@ -25,7 +25,7 @@ kindSays (Action.Refused why) = refused (numberOf why)
 abbrev pub inOrder : Fields → List ℕ
 inOrder f = f .action ∷ f .number ∷ f .kind ∷ f .stage ∷ f .switch ∷ f .mask ∷ f .set ∷ []
 
--- 13: "lent memory too short": shorter than seven fields
+-- 13: "lent memory too short": shorter than seven fields (`seven-are-enough`, `six-are-too-few`)
 abbrev pub roomCheck : List ℕ → List Check
 roomCheck memory = (13 when length memory below 7) ∷ []
 
