@@ -40,7 +40,7 @@ ghost use Rattle.handed.specs.Books.{keptSays, OverSheet, ListsOver};
 pub extern "C" fn tabashfar_tag_to_steps(n: u8, source: u16, tag: u32, memory: &mut [u8]) -> u64
     ensures { λ r. ⌜ Tells (λ a. TagToSteps n source tag (now (memory .entry)) a (now (memory .exit))) writtenSays r ⌝ }
 {
-    written(tags::tag_to_steps(n, source, tag, memory))
+    written(tagging::tag_to_steps(n, source, tag, memory))
 }
 
 // "steps to tag (n, source, memory)"
@@ -48,7 +48,7 @@ pub extern "C" fn tabashfar_tag_to_steps(n: u8, source: u16, tag: u32, memory: &
 pub extern "C" fn tabashfar_steps_to_tag(n: u8, source: u16, memory: &[u8]) -> u64
     ensures { λ r. ⌜ Tells (StepsToTag n source (now (memory .entry))) tagSays r ⌝ }
 {
-    tag_told(tags::steps_to_tag(n, source, memory))
+    tag_told(tagging::steps_to_tag(n, source, memory))
 }
 
 // "normal form of a tag (n, source, tag)"
@@ -56,7 +56,7 @@ pub extern "C" fn tabashfar_steps_to_tag(n: u8, source: u16, memory: &[u8]) -> u
 pub extern "C" fn tabashfar_normal_form(n: u8, source: u16, tag: u32) -> u64
     ensures { λ r. ⌜ Tells (NormalForm n source tag) tagSays r ⌝ }
 {
-    tag_told(tags::normal_form(n, source, tag))
+    tag_told(tagging::normal_form(n, source, tag))
 }
 
 // "open (n)"

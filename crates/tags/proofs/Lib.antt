@@ -1,5 +1,3 @@
-pub mod Lent
-pub mod Reading
 pub mod Promises
 pub mod Entries
 pub mod Exactly

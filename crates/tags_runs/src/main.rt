@@ -101,7 +101,7 @@ fn steps(n: u8, source: u16, tag: u32, room: usize)
 }
 
 fn steps_into(n: u8, source: u16, tag: u32, memory: &mut [u8]) {
-    let answer = tags::tag_to_steps(n, source, tag, memory);
+    let answer = tagging::tag_to_steps(n, source, tag, memory);
     word(b"STEPS");
     number(n as u64);
     number(source as u64);
@@ -118,7 +118,7 @@ fn steps_into(n: u8, source: u16, tag: u32, memory: &mut [u8]) {
 fn back(n: u8, source: u16, steps: [u8; 4], room: usize)
     requires { ⌜ room ≤ 4 ⌝ }
 {
-    let answer = tags::steps_to_tag(n, source, &steps[0..room]);
+    let answer = tagging::steps_to_tag(n, source, &steps[0..room]);
     word(b"TAG");
     number(n as u64);
     number(source as u64);
@@ -131,7 +131,7 @@ fn normal(n: u8, source: u16, tag: u32) {
     number(n as u64);
     number(source as u64);
     number(tag as u64);
-    told(tags::normal_form(n, source, tag));
+    told(tagging::normal_form(n, source, tag));
 }
 
 fn told(answer: Tag) {

@@ -1,15 +1,15 @@
 // Document 01, 'tag to steps'.
-use crate::Written;
 use scheme::outside_tags;
 use scheme::step_of;
 use table::Refusal;
+use tags::Written;
 ghost use mathlib.Core.Path.{_≡_};
 ghost use mathlib.Core.List.{_++_};
 ghost use Prim.Native.Nat.{_≤_, _<_};
 ghost use lib.ListN.{length, drop};
 ghost use Rattle.fabric.specs.Labels.{size};
 ghost use Rattle.scheme.specs.Tags.{stepsOf};
 ghost use Rattle.tags.specs.Entries.{TagToSteps};
 
 // The steps of a tag at the front of the memory; the rest stays.
 pub fn write_steps(n: u8, source: u16, tag: u32, memory: &mut [u8])

@@ -1,15 +1,15 @@
 // Document 01, 'steps to tag'.
-use crate::Tag;
 use scheme::joined;
 use scheme::state_bit;
 use scheme::state_for;
 use table::Refusal;
+use tags::Tag;
 ghost use mathlib.Core.Path.{_≡_};
 ghost use Prim.Native.Nat.{_≤_, _<_};
 ghost use lib.ListN.{length, take};
 ghost use Rattle.fabric.specs.Labels.{size};
 ghost use Rattle.scheme.specs.Tags.{normalTag};
 ghost use Rattle.tags.specs.Entries.{someAboveTwo, StepsToTag};
 
 // Whether one of the first n bytes is a code above 2.
 fn some_above_two(n: u8, memory: &[u8]) -> bool

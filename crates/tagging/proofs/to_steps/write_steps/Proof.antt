@@ -10,9 +10,9 @@ use Rattle.fabric.specs.Labels.{size}
 use Rattle.fabric.specs.Walks.{switchAt, walked}
 use Rattle.scheme.specs.Tags.{stepsOf}
 use Rattle.scheme.proofs.Steps.{steps-of-tag, step-on}
-use Rattle.tags.proofs.Lent.{front-more}
-use Rattle.tags.proofs.to_steps.write_steps.Statement.{statement}
-use Rattle.tags.proofs.to_steps.write_steps.Tie as tie
+use Rattle.tagging.proofs.Lent.{front-more}
+use Rattle.tagging.proofs.to_steps.write_steps.Statement.{statement}
+use Rattle.tagging.proofs.to_steps.write_steps.Tie as tie
 
 abbrev Inv-loop : tie.InvT-loop
 Inv-loop n source tag memory₀ j₀ i₀ memory j i =

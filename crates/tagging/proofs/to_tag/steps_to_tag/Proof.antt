@@ -2,9 +2,9 @@
 use borrow.Author.Needs.{needs}
 use Rattle.table.proofs.Checks.{refusing, accepting}
 use Rattle.fabric.proofs.Tests.{bounds}
 use Rattle.tags.proofs.Promises.{to-tag-refuses, to-tag-accepts}
-use Rattle.tags.proofs.to_tag.steps_to_tag.Statement.{statement}
-use Rattle.tags.proofs.to_tag.steps_to_tag.Tie as tie
+use Rattle.tagging.proofs.to_tag.steps_to_tag.Statement.{statement}
+use Rattle.tagging.proofs.to_tag.steps_to_tag.Tie as tie
 
 outside-sizes-requires : tie.Need-outside-sizes-requires
 outside-sizes-requires c κs = search (needs, bounds)

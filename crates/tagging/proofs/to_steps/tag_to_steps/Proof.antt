@@ -2,9 +2,9 @@
 use borrow.Author.Needs.{needs}
 use Rattle.table.proofs.Checks.{refusing, accepting}
 use Rattle.fabric.proofs.Tests.{bounds}
 use Rattle.tags.proofs.Promises.{to-steps-refuses, to-steps-accepts}
-use Rattle.tags.proofs.to_steps.tag_to_steps.Statement.{statement}
-use Rattle.tags.proofs.to_steps.tag_to_steps.Tie as tie
+use Rattle.tagging.proofs.to_steps.tag_to_steps.Statement.{statement}
+use Rattle.tagging.proofs.to_steps.tag_to_steps.Tie as tie
 
 outside-sizes-requires : tie.Need-outside-sizes-requires
 outside-sizes-requires c κs = search (needs, bounds)

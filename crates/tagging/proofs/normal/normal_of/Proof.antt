@@ -7,8 +7,8 @@ use lib.ListN.{take}
 use lib.Seq.{take-at}
 use Rattle.scheme.specs.Tags.{stepsOf, normalTag}
 use Rattle.scheme.proofs.Steps.{steps-of-tag}
-use Rattle.tags.proofs.normal.normal_of.Statement.{statement}
-use Rattle.tags.proofs.normal.normal_of.Tie as tie
+use Rattle.tagging.proofs.normal.normal_of.Statement.{statement}
+use Rattle.tagging.proofs.normal.normal_of.Tie as tie
 
 slice-aggregate-write-steps : tie.Need-slice-aggregate-write-steps
 slice-aggregate-write-steps c = search needs

@@ -7,10 +7,10 @@ use lib.ListN.{length, take}
 use lib.Pow.{pow-mono}
 use Rattle.fabric.specs.Labels.{size}
 use Rattle.fabric.specs.Walks.{switchAt, walked}
-use Rattle.tags.proofs.Reading.{collects, collected}
+use Rattle.tagging.proofs.Reading.{collects, collected}
 use Rattle.scheme.specs.Tags.{statesOf}
-use Rattle.tags.proofs.to_tag.read_steps.Statement.{statement}
-use Rattle.tags.proofs.to_tag.read_steps.Tie as tie
+use Rattle.tagging.proofs.to_tag.read_steps.Statement.{statement}
+use Rattle.tagging.proofs.to_tag.read_steps.Tie as tie
 
 abbrev Inv-loop : tie.InvT-loop
 Inv-loop n source memory states₀ j₀ i₀ states j i =

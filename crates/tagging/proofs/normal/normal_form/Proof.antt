@@ -2,9 +2,9 @@
 use borrow.Author.Needs.{needs}
 use Rattle.table.proofs.Checks.{refusing, accepting}
 use Rattle.fabric.proofs.Tests.{bounds}
 use Rattle.tags.proofs.Promises.{form-refuses, form-accepts}
-use Rattle.tags.proofs.normal.normal_form.Statement.{statement}
-use Rattle.tags.proofs.normal.normal_form.Tie as tie
+use Rattle.tagging.proofs.normal.normal_form.Statement.{statement}
+use Rattle.tagging.proofs.normal.normal_form.Tie as tie
 
 outside-sizes-requires : tie.Need-outside-sizes-requires
 outside-sizes-requires c κs = search (needs, bounds)

@@ -5,10 +5,10 @@ use native.Mathlib.Omega.{arith}
 use borrow.Author.Tests.{lt-ltb, le-ltb}
 use borrow.Author.Needs.{needs}
 use lib.ListN.{take}
 use Rattle.tags.specs.Entries.{someAboveTwo}
-use Rattle.tags.proofs.Lent.{rest, rest-all, rest-more, rest-short, rest-done}
-use Rattle.tags.proofs.to_tag.some_above_two.Statement.{statement}
-use Rattle.tags.proofs.to_tag.some_above_two.Tie as tie
+use Rattle.tagging.proofs.Lent.{rest, rest-all, rest-more, rest-short, rest-done}
+use Rattle.tagging.proofs.to_tag.some_above_two.Statement.{statement}
+use Rattle.tagging.proofs.to_tag.some_above_two.Tie as tie
 
 abbrev Inv-loop : tie.InvT-loop
 Inv-loop n memory i₀ i = (i ≤ n) × (someAboveTwo (take n memory) ≡ someAboveTwo (rest n i memory))
