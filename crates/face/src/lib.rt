@@ -72,7 +72,7 @@ pub extern "C" fn tabashfar_open(n: u8) -> u64
 fn filed(sheet: &[u8], notice: Notice) -> u64
     ensures { λ r. ⌜ OverSheet (now (sheet .entry)) (λ b. Tells (Files b notice) keptSays) r ⌝ }
 {
-    match sheet::read_header(sheet) {
+    match sheet_reader::read_header(sheet) {
         Header::Sheet { n, count } => {
             let kept = after_all(sheet, n, count).file(notice);
             let answer = kept.answer;
@@ -145,7 +145,7 @@ pub extern "C" fn tabashfar_file_pattern(
 pub extern "C" fn tabashfar_withdraw(sheet: &[u8], number: u16) -> u64
     ensures { λ r. ⌜ OverSheet (now (sheet .entry)) (λ b. Tells (Withdraws b number) keptSays) r ⌝ }
 {
-    match sheet::read_header(sheet) {
+    match sheet_reader::read_header(sheet) {
         Header::Sheet { n, count } => {
             let kept = after_all(sheet, n, count).withdraw(number);
             let answer = kept.answer;
@@ -160,7 +160,7 @@ pub extern "C" fn tabashfar_withdraw(sheet: &[u8], number: u16) -> u64
 pub extern "C" fn tabashfar_link(sheet: &[u8], stage: u8, switch: u16, code: u8) -> u64
     ensures { λ r. ⌜ OverSheet (now (sheet .entry)) (λ b. Tells (Tests b stage switch code) linkSays) r ⌝ }
 {
-    match sheet::read_header(sheet) {
+    match sheet_reader::read_header(sheet) {
         Header::Sheet { n, count } => link_told(after_all(sheet, n, count).link(
             stage,
             switch,
@@ -175,7 +175,7 @@ pub extern "C" fn tabashfar_link(sheet: &[u8], stage: u8, switch: u16, code: u8)
 pub extern "C" fn tabashfar_route(sheet: &[u8], source: u16, destination: u16) -> u64
     ensures { λ r. ⌜ OverSheet (now (sheet .entry)) (λ b. Tells (Routes b source destination) routeSays) r ⌝ }
 {
-    match sheet::read_header(sheet) {
+    match sheet_reader::read_header(sheet) {
         Header::Sheet { n, count } => found(router::route(
             after_all(sheet, n, count),
             source,
@@ -190,7 +190,7 @@ pub extern "C" fn tabashfar_route(sheet: &[u8], source: u16, destination: u16) -
 pub extern "C" fn tabashfar_walk(sheet: &[u8], source: u16, tag: u32) -> u64
     ensures { λ r. ⌜ OverSheet (now (sheet .entry)) (λ b. Tells (Walks b source tag) walkSays) r ⌝ }
 {
-    match sheet::read_header(sheet) {
+    match sheet_reader::read_header(sheet) {
         Header::Sheet { n, count } => ended(walks::walk(after_all(sheet, n, count), source, tag)),
         Header::Refused(why) => refused(why),
     }
@@ -201,7 +201,7 @@ pub extern "C" fn tabashfar_walk(sheet: &[u8], source: u16, tag: u32) -> u64
 pub extern "C" fn tabashfar_listing(sheet: &[u8], memory: &mut [u8]) -> u64
     ensures { λ r. ⌜ ListsOver (now (sheet .entry)) (now (memory .entry)) (now (memory .exit)) r ⌝ }
 {
-    match sheet::read_header(sheet) {
+    match sheet_reader::read_header(sheet) {
         Header::Sheet { n, count } => listed(after_all(sheet, n, count).listing(memory)),
         Header::Refused(why) => refused(why),
     }
@@ -212,7 +212,7 @@ pub extern "C" fn tabashfar_listing(sheet: &[u8], memory: &mut [u8]) -> u64
 pub extern "C" fn tabashfar_header(sheet: &[u8]) -> u64
     ensures { λ r. ⌜ Tells (ReadsHeader (now (sheet .entry))) headerSays r ⌝ }
 {
-    header_told(sheet::read_header(sheet))
+    header_told(sheet_reader::read_header(sheet))
 }
 
 // "For a sheet and k, counted from 0, one entry says whether the action is there"
@@ -220,7 +220,7 @@ pub extern "C" fn tabashfar_header(sheet: &[u8]) -> u64
 pub extern "C" fn tabashfar_has_action(sheet: &[u8], k: usize) -> u64
     ensures { λ r. ⌜ Tells (HasAction (now (sheet .entry)) k) thereSays r ⌝ }
 {
-    there_told(sheet::has_action(sheet, k))
+    there_told(sheet_reader::has_action(sheet, k))
 }
 
 // "A second entry returns a part only": how long it is in the low byte, and from bit 8 on where in the sheet it starts
@@ -228,7 +228,7 @@ pub extern "C" fn tabashfar_has_action(sheet: &[u8], k: usize) -> u64
 pub extern "C" fn tabashfar_action_part(sheet: &[u8], k: usize) -> u64
     ensures { λ r. ⌜ r ≡ length (partOf (now (sheet .entry)) k) + 256 * startOf (now (sheet .entry)) k ⌝ }
 {
-    match sheet::has_action(sheet, k) {
+    match sheet_reader::has_action(sheet, k) {
         There::Yes => 10 + 256 * (8 + 10 * k as u64),
         There::Refused(_) => 0,
     }

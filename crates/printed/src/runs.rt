@@ -18,7 +18,7 @@ ghost use Rattle.printed.specs.Runs.{LinesWritten, RunsBy, Runs};
 pub fn run(sheet: &[u8], out: &mut [u8]) -> Ran
     ensures { λ r. ⌜ Runs (now (sheet .entry)) (now (out .entry)) r (now (out .exit)) ⌝ }
 {
-    match sheet::read_header(sheet) {
+    match sheet_reader::read_header(sheet) {
         Header::Refused(why) => refused_sheet(why, out),
         Header::Sheet { n, count } => whole_sheet(sheet, n, count, out),
     }
@@ -68,7 +68,7 @@ fn lines(sheet: &[u8], n: u8, count: u16, out: &mut [u8], at: usize) -> usize
     let mut next = at;
     let mut k: usize = 0;
     while k < count as usize {
-        let part = sheet::action_part(sheet, k);
+        let part = sheet_reader::action_part(sheet, k);
         let told = action_line(n, book, part, out, next);
         let after = told.book;
         book = after;

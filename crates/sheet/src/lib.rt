@@ -1,11 +1,4 @@
-// Document 01, 'The sheet and what is printed': a sheet's header, and the parts of it that are its actions.
-mod headers; // headers.rt: a sheet's header, and its parts
-
-pub use actions::read_action;
-pub use headers::action_part;
-pub use headers::has_action;
-pub use headers::read_header;
-use notices::Notice;
+// Document 01, 'The sheet and what is printed': what the entries over a sheet answer.
 use table::Refusal;
 
 // What the sheet header answers.

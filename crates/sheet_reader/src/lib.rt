@@ -1,12 +1,12 @@
-// A sheet's header, and the parts of a sheet that are its actions.
-use crate::Header;
-use crate::There;
+// Document 01, 'The sheet and what is printed': a sheet's header, and the parts of a sheet that are its actions.
+use sheet::Header;
+use sheet::There;
 use table::Refusal;
 ghost use mathlib.Core.Path.{_≡_};
 ghost use mathlib.Core.Bool.{false};
 ghost use Prim.Native.Nat.{_+_, _≤_};
 ghost use lib.ListN.{length};
 ghost use Rattle.sheet.specs.Entries.{wrongMark, wrongLength, ReadsHeader, HasAction, startOf, partOf};
 
 // 14
 fn wrong_mark(sheet: &[u8]) -> bool

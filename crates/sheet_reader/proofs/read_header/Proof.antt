@@ -2,9 +2,9 @@
 use native.Mathlib.Omega.{arith}
 use borrow.Author.Needs.{needs}
 use Rattle.table.proofs.Checks.{refusing, accepting}
 use Rattle.sheet.proofs.Promises.{header-refuses, header-accepts}
-use Rattle.sheet.proofs.headers.read_header.Statement.{statement}
-use Rattle.sheet.proofs.headers.read_header.Tie as tie
+use Rattle.sheet_reader.proofs.read_header.Statement.{statement}
+use Rattle.sheet_reader.proofs.read_header.Tie as tie
 
 wrong-mark-requires : tie.Need-wrong-mark-requires
 wrong-mark-requires c κs = search needs

@@ -2,8 +2,8 @@
 use mathlib.Core.Bool.{true≢false}
 use borrow.Author.Tests.{lt-ltb, le-ltb, eq-eqb, ne-eqb}
 use borrow.Author.Needs.{needs}
-use Rattle.sheet.proofs.headers.wrong_mark.Statement.{statement}
-use Rattle.sheet.proofs.headers.wrong_mark.Tie as tie
+use Rattle.sheet_reader.proofs.wrong_mark.Statement.{statement}
+use Rattle.sheet_reader.proofs.wrong_mark.Tie as tie
 
 returns : tie.Need-returns
 returns c = (rw (lt-ltb _ _ (c .if1 .taken)), λ e. absurd (true≢false e))

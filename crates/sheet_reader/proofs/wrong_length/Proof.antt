@@ -1,8 +1,8 @@
 -- The two tests are those of the definition, over the count that was read.
 use borrow.Author.Tests.{lt-ltb, le-ltb}
 use borrow.Author.Needs.{needs}
-use Rattle.sheet.proofs.headers.wrong_length.Statement.{statement}
-use Rattle.sheet.proofs.headers.wrong_length.Tie as tie
+use Rattle.sheet_reader.proofs.wrong_length.Statement.{statement}
+use Rattle.sheet_reader.proofs.wrong_length.Tie as tie
 
 word-at-requires : tie.Need-word-at-requires
 word-at-requires c κs = search needs

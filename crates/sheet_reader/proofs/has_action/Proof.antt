@@ -1,8 +1,8 @@
 -- The header's number, or 13, or neither.
 use borrow.Author.Needs.{needs}
 use Rattle.sheet.proofs.Promises.{there-by-header, there-beyond, there-yes}
-use Rattle.sheet.proofs.headers.has_action.Statement.{statement}
-use Rattle.sheet.proofs.headers.has_action.Tie as tie
+use Rattle.sheet_reader.proofs.has_action.Statement.{statement}
+use Rattle.sheet_reader.proofs.has_action.Tie as tie
 
 read-header-requires : tie.Need-read-header-requires
 read-header-requires c κs = search needs

@@ -3,9 +3,9 @@ use mathlib.Core.Path.{refl, ap}
 use Prim.Native.Nat.{ℕ, _+_}
 use native.Mathlib.Omega.{arith}
 use borrow.Author.Needs.{needs}
 use Rattle.sheet.proofs.Promises.{start-there, start-nowhere, there-fits, part-there, part-nowhere}
-use Rattle.sheet.proofs.headers.action_part.Statement.{statement}
-use Rattle.sheet.proofs.headers.action_part.Tie as tie
+use Rattle.sheet_reader.proofs.action_part.Statement.{statement}
+use Rattle.sheet_reader.proofs.action_part.Tie as tie
 
 has-action-requires : tie.Need-has-action-requires
 has-action-requires c κs = search needs
