@@ -7,7 +7,7 @@ use Rattle.table.specs.Numbers.{numberOf}
 use Rattle.words.specs.Words.{ascii, decimal, tagBits, ending}
 use Rattle.words.proofs.Spelling.{Words, nine-are-words, decimal-is-a-word, bits-are-a-word}
 use Rattle.book.specs.declared.Answer.{Answer}
-use Rattle.crossing.specs.declared.Found.{Found}
+use Rattle.routes.specs.declared.Found.{Found}
 use Rattle.answers.specs.Told.{told, foundTold}
 
 -- "`OK`, or `REFUSED` and the table number"

@@ -3,7 +3,7 @@ use mathlib.Core.List.{List, [], _∷_}
 use Prim.Native.Nat.{ℕ}
 use Rattle.words.specs.Words.{decimal, tagBits, refusal, OK, TAG, NONE}
 use Rattle.book.specs.declared.Answer.{Answer}
-use Rattle.crossing.specs.declared.Found.{Found}
+use Rattle.routes.specs.declared.Found.{Found}
 
 -- "`OK`, or `REFUSED` and the table number": `told-spelled`
 abbrev pub told : Answer → List (List ℕ)

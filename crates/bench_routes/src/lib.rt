@@ -1,9 +1,9 @@
 // For bench/ alone: the router asked many questions in one call, in bytes, so that a program in Rust can link it and measure
 // it. The promises here are about memory; what the answers mean is said by `Routes` in the router.
 use book::Book;
-use crossing::Found;
 use notices::Notice;
 use notices::Target;
+use routes::Found;
 ghost use mathlib.Core.Path.{_≡_};
 ghost use mathlib.Core.Bool.{false};
 ghost use Prim.Native.Nat.{_+_, _≤_, _<_};

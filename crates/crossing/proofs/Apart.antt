@@ -12,8 +12,8 @@ use Rattle.fabric.specs.Labels.{size, bit, Agree}
 use Rattle.fabric.specs.Links.{lands}
 use Rattle.fabric.proofs.Bits.{bit-lt, low-of-low, low-more, agree-bit}
 use Rattle.fabric.proofs.Links.{nonstraight-bit}
-use Rattle.paths.specs.Frontier.{high}
-use Rattle.paths.proofs.Pivots.{highRight, high-straight, high-plus}
+use Rattle.frontier.specs.Frontier.{high}
+use Rattle.frontier.proofs.Pivots.{highRight, high-straight, high-plus}
 
 module _ (n s d a : ℕ) (few : n ≤ 12) (source : s < size n) (apart : (a + s) % 65536 ≡ d) where
   abbrev pub above : ℕ → ℕ

@@ -7,14 +7,15 @@ use native.Mathlib.Numerals.{add-one}
 use native.Mathlib.Omega.{arith}
 use lib.ListN.{getD}
 use Rattle.fabric.specs.Labels.{size, bit}
-use Rattle.paths.specs.declared.Front.{Front}
-use Rattle.paths.specs.declared.Stops.{Stops}
+use Rattle.frontier.specs.declared.Front.{Front}
+use Rattle.frontier.specs.declared.Stops.{Stops}
 use Rattle.paths.specs.Clear.{Rule}
-use Rattle.paths.specs.Frontier.{high, lesser, advanced, mirrored, stopsFrom}
-use Rattle.paths.proofs.Pivots.{highRight}
-use Rattle.paths.proofs.Frontier.{Holds, Found, looks-from, advanced-holds, onward-best, found-first, stage-named, none-clear}
-use Rattle.crossing.specs.declared.Found as answer
-use Rattle.crossing.specs.Routed.{Routed}
+use Rattle.frontier.specs.Frontier.{high, lesser, advanced, mirrored, stopsFrom}
+use Rattle.paths.proofs.Named.{stage-named, none-clear}
+use Rattle.frontier.proofs.Pivots.{highRight}
+use Rattle.frontier.proofs.Frontier.{Holds, Found, looks-from, advanced-holds, onward-best, found-first}
+use Rattle.routes.specs.declared.Found as answer
+use Rattle.routes.specs.Routed.{Routed}
 use Rattle.crossing.specs.Marked.{Marked, unmarked}
 
 module _ (n : ℕ) (stops : Rule) (s d : ℕ) (source : s < size n) where
@@ -33,7 +34,7 @@ module _ (n : ℕ) (stops : Rule) (s d : ℕ) (source : s < size n) where
   none-ahead i h front next held alive held' gone =
       let w = onward-best n stops s d source i (omega arith) front held .reached alive in
       let empty = onward-best n stops s d source (suc i) h next (subst (λ (k : ℕ). Holds n stops s d k next) (add-one i) held') .unreached gone in
-      (none-clear n stops s d source i h empty, stage-named n stops s d source i h (w .walk) (w .among) empty)
+      (none-clear n stops s d i h empty, stage-named n stops s d i h (w .walk) (w .among) empty)
 
   -- a frontier that reaches the last column
   pub found-ahead : d < size n → (i tag : ℕ) → i ≡ n → (front : Front) → Holds n stops s d i front → lesser (front .high) (front .low) < size n

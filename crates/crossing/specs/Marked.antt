@@ -5,9 +5,9 @@ use Prim.Native.Nat.{ℕ, _<_}
 use lib.Dec.{eqb}
 use lib.ListN.{getD}
 use Rattle.fabric.specs.Labels.{bit}
-use Rattle.paths.specs.declared.Stops.{Stops}
+use Rattle.frontier.specs.declared.Stops.{Stops}
 use Rattle.paths.specs.Clear.{Rule}
-use Rattle.paths.specs.Frontier.{high, stopsFrom}
+use Rattle.frontier.specs.Frontier.{high, stopsFrom}
 
 -- nothing stops the links of a stage
 abbrev pub unmarked : Stops

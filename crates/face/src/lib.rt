@@ -26,8 +26,7 @@ ghost use Rattle.tags.specs.Entries.{writtenSays, tagSays, TagToSteps, StepsToT
 ghost use Rattle.notices.specs.declared.Target.the-variants.{Links, Switch, Pattern};
 ghost use Rattle.book.specs.Entries.{linkSays, Opens, Files, Withdraws, Tests};
 ghost use Rattle.walks.specs.Entries.{walkSays, Walks};
-ghost use Rattle.crossing.specs.Routed.{routeSays};
-ghost use Rattle.router.specs.Entries.{Routes};
+ghost use Rattle.routes.specs.Routed.{routeSays, Routes};
 ghost use Rattle.actions.specs.Entries.{ReadsAction};
 ghost use Rattle.sheet.specs.Entries.{headerSays, thereSays, ReadsHeader, HasAction, startOf, partOf};
 ghost use Rattle.printed.specs.Runs.{ranSays, Runs};

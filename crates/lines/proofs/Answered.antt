@@ -15,9 +15,9 @@ use Rattle.book.specs.declared.Answer.{Answer}
 use Rattle.book.specs.Entries.{Files, Withdraws}
 use Rattle.book.proofs.Once.{files-once, withdraws-once}
 use Rattle.notices.specs.declared.Notice.{Notice}
-use Rattle.crossing.specs.declared.Found.{Found}
-use Rattle.router.specs.Entries.{Routes}
-use Rattle.router.proofs.Entries.{route-once}
+use Rattle.routes.specs.declared.Found.{Found}
+use Rattle.routes.specs.Routed.{Routes}
+use Rattle.routes.proofs.Entries.{route-once}
 use Rattle.actions.specs.declared.Action.{Action}
 use Rattle.actions.specs.Format.{IsAction, bytesOf}
 use Rattle.actions.specs.Entries.{ReadsAction}

@@ -5,7 +5,7 @@ use Prim.Native.Nat.{ℕ}
 use Rattle.book.specs.declared.Book.{Book}
 use Rattle.book.specs.declared.Kept.{Kept}
 use Rattle.book.proofs.Once.{files-once, withdraws-once}
-use Rattle.router.proofs.Entries.{route-once}
+use Rattle.routes.proofs.Entries.{route-once}
 use Rattle.actions.specs.declared.Action.{Action}
 use Rattle.actions.proofs.Actions.{action-once}
 use Rattle.lines.specs.Text.{fileLine, withdrawLine, routeLine}

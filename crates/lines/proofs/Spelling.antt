@@ -7,7 +7,7 @@ use Rattle.table.specs.Numbers.{numberOf}
 use Rattle.words.specs.Words.{ascii, decimalIn, decimal, bitsFrom, ending}
 use Rattle.answers.specs.Told.{told, foundTold}
 use Rattle.book.specs.declared.Answer.{Answer}
-use Rattle.crossing.specs.declared.Found.{Found}
+use Rattle.routes.specs.declared.Found.{Found}
 use Rattle.lines.specs.Text.{sheetLine, refusedSheet, fileLine, withdrawLine, routeLine, faultLine}
 
 -- 01's output of "Example, n = 3, eleven actions"; then "only `SHEET REFUSED k`", a layout fault, and numbers as large as they come

@@ -6,8 +6,8 @@ use Rattle.words.specs.Wrote.{Wrote}
 use Rattle.book.specs.declared.Book.{Book}
 use Rattle.book.specs.declared.Kept.{Kept}
 use Rattle.book.specs.Entries.{Files, Withdraws}
-use Rattle.crossing.specs.declared.Found.{Found}
-use Rattle.router.specs.Entries.{Routes}
+use Rattle.routes.specs.declared.Found.{Found}
+use Rattle.routes.specs.Routed.{Routes}
 use Rattle.actions.specs.declared.Action.{Action}
 use Rattle.actions.specs.Entries.{ReadsAction}
 use Rattle.lines.specs.declared.Next.{Next}

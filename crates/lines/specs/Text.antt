@@ -6,7 +6,7 @@ use Rattle.table.specs.declared.Refusal.{Refusal}
 use Rattle.answers.specs.Told.{told, foundTold}
 use Rattle.words.specs.Words.{decimal, line, refusal, SHEET, FILE, WITHDRAW, ROUTE, ACTION}
 use Rattle.book.specs.declared.Answer.{Answer}
-use Rattle.crossing.specs.declared.Found.{Found}
+use Rattle.routes.specs.declared.Found.{Found}
 
 -- "First line: `SHEET n count`, or only `SHEET REFUSED k`.": `sheet-spelled`, `refused-sheet-spelled`
 abbrev pub sheetLine : ℕ → ℕ → List ℕ

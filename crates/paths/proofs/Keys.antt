@@ -1,35 +1,21 @@
 -- The states of steps as a number whose highest bit is the state of stage 0: the order of these numbers is 01's order of
 -- paths.
-use mathlib.Core.Path.{_≡_, refl, sym, ap, ap₂, _∙_}
+use mathlib.Core.Path.{_≡_, sym, ap, ap₂, _∙_}
 use mathlib.Core.List.{List, [], _∷_, _++_}
-use Prim.Native.Nat.{ℕ, zero, suc, _+_, _*_, _%_, _^_, _<_}
-use native.Mathlib.Nat.{add-zero, zero-add, mul-assoc, add-mul, mod-eq-of-lt, mul-add-mod-self-right, pow-suc}
+use Prim.Native.Nat.{ℕ, zero, suc, _+_, _*_, _^_, _<_}
+use native.Mathlib.Nat.{add-zero, zero-add, mul-assoc, add-mul, pow-suc}
 use native.Mathlib.Omega.{arith}
 use lib.ListN.{length, length-append}
-use lib.Pow.{pow-add, high}
-use Rattle.fabric.specs.Labels.{bit, Agree}
+use lib.Pow.{pow-add}
+use Rattle.fabric.specs.Labels.{bit}
 use Rattle.fabric.specs.Links.{lands}
 use Rattle.fabric.specs.Walks.{walked}
-use Rattle.fabric.proofs.Bits.{bit-lt, agree-less, agree-bit}
 use Rattle.scheme.specs.Scheme.{stateFor}
-use Rattle.scheme.specs.Tags.{statesOf}
 use Rattle.scheme.proofs.Table.{stateFor-lt}
-use Rattle.paths.specs.Frontier.{mirrored}
 
 unfoldable pub keyOf : ℕ → ℕ → ℕ → List ℕ → ℕ
 keyOf n i j [] = 0
 keyOf n i j (c ∷ cs) = stateFor (bit i j) c * 2 ^ length cs + keyOf n (suc i) (lands n i c j) cs
-
--- only the low bits are mirrored, and they fill as many
-mirrored-low : (m x y : ℕ) → Agree m x y → mirrored m x ≡ mirrored m y
-unfolding mirrored
-mirrored-low zero x y e = refl
-mirrored-low (suc m) x y e = ap₂ (λ (a b : ℕ). a * 2 + b) (mirrored-low m x y (agree-less m (suc m) x y (omega arith) e)) (agree-bit m (suc m) x y (omega arith) e)
-
-pub mirrored-lt : (m x : ℕ) → mirrored m x < 2 ^ m
-unfolding mirrored
-mirrored-lt zero x = omega arith
-mirrored-lt (suc m) x = let l = mirrored-lt m x in let b = bit-lt m x in let d = pow-suc 2 m in omega arith
 
 -- a state fills one bit
 bit-room : (b p x : ℕ) → b < 2 → x < p → b * p + x < p * 2
@@ -68,16 +54,3 @@ module _ (n : ℕ) where
       key-on 0 s cs (c ∷ [])
       ∙ ap (λ (m : ℕ). keyOf n 0 s cs * 2 + (stateFor (bit m (walked n 0 s cs)) c * 1 + 0)) (zero-add (length cs))
       ∙ omega arith
-
-  -- a tag has the states in the other order
-  pub key-mirrored : (i j : ℕ) (cs : List ℕ) → mirrored (length cs) (keyOf n i j cs) ≡ statesOf n i j cs
-  unfolding keyOf statesOf mirrored
-  key-mirrored i j [] = refl
-  key-mirrored i j (c ∷ cs) =
-      let m : ℕ = length cs in
-      let st : ℕ = stateFor (bit i j) c in
-      let k : ℕ = keyOf n (suc i) (lands n i c j) cs in
-      let ih = key-mirrored (suc i) (lands n i c j) cs in
-      let low = mirrored-low m (st * 2 ^ m + k) k (mul-add-mod-self-right st (2 ^ m) k) in
-      let top : bit m (st * 2 ^ m + k) ≡ st = ap (λ (x : ℕ). x % 2) (high st m (key-lt (suc i) (lands n i c j) cs)) ∙ mod-eq-of-lt (stateFor-lt (bit i j) c) in
-      omega arith

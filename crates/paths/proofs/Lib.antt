@@ -1,9 +1,5 @@
 pub mod Keys
 pub mod Walks
 pub mod Alike
+pub mod Named
 pub mod Order
-pub mod Pivots
-pub mod Places
-pub mod Best
-pub mod Sides
-pub mod Frontier

@@ -14,7 +14,7 @@ use Rattle.scheme.specs.Scheme.{link, stateFor}
 use Rattle.scheme.specs.Tags.{state, normalTag}
 use Rattle.scheme.proofs.Table.{stateFor-lt}
 use Rattle.scheme.proofs.NormalTags.{path-follows, normal-state}
-use Rattle.paths.specs.Clear.{Rule, ComesBefore, First}
+use Rattle.paths.specs.Clear.{Rule, ClearPath, ComesBefore, First}
 use Rattle.paths.proofs.Keys.{keyOf, key-on, key-lt}
 
 -- the key of steps, cut at stage k
@@ -44,21 +44,14 @@ module _ (n s d : ℕ) (cs ds : List ℕ) (p : Path n s d cs) (q : Path n s d ds
       ∙ ap₂ (λ (j st : ℕ). link (bit k j) (bit k d) st) same-switch e
       ∙ sym (path-follows n s d ds q k inside)
 
--- where paths part they are still inside
-inside-stage : (n : ℕ) (cs ds : List ℕ) (k : ℕ) → length cs ≡ n → length ds ≡ n → (getD cs k 0 ≡ getD ds k 0 → ⊥) → k < n
-inside-stage n cs ds k lc ld parted = go (decLt k n)
-  where
-    go : Dec (k < n) → k < n
-    go (yes h) = h
-    go (no h) = absurd (parted (List·getD-eq-default cs 0 (omega arith) ∙ sym (List·getD-eq-default ds 0 (omega arith))))
-
 -- a path that comes before another has the lesser key
 pub earlier-key : (n s d : ℕ) (cs ds : List ℕ) → Path n s d cs → Path n s d ds → ComesBefore n s cs ds → keyOf n 0 s cs < keyOf n 0 s ds
 earlier-key n s d cs ds p q b =
     let k : ℕ = b .stage in
     let lc = p .steps .stages in
     let ld = q .steps .stages in
-    let h = inside-stage n cs ds k lc ld (b .parted) in
+    let i = b .inside in
+    let h : k < n = omega arith in
     let x : ℕ = stateFor (bit k (switchAt n s ds k)) (getD ds k 0) in
     let one : (x ≡ 0 → ⊥) = λ z. b .parted (same-state-same-code n s d cs ds p q k h (b .together) (b .zeroThere ∙ sym z)) in
     let hx = stateFor-lt (bit k (switchAt n s ds k)) (getD ds k 0) in
@@ -109,7 +102,8 @@ before-exactly n s d source cs ds p q = (told, back)
     told : ComesBefore n s cs ds → StatesBefore n (normalTag n s cs) (normalTag n s ds)
     told b =
         let k : ℕ = b .stage in
-        let h : k < n = inside-stage n cs ds k lc ld (b .parted) in
+        let i = b .inside in
+        let h : k < n = omega arith in
         let x : ℕ = stateFor (bit k (switchAt n s ds k)) (getD ds k 0) in
         let one : (x ≡ 0 → ⊥) = λ z. b .parted (same-state-same-code n s d cs ds p q k h (b .together) (b .zeroThere ∙ sym z)) in
         let hx = stateFor-lt (bit k (switchAt n s ds k)) (getD ds k 0) in
@@ -134,6 +128,7 @@ before-exactly n s d source cs ds p q = (told, back)
         let e : take k cs ≡ take k ds = all-together k (omega arith) in
         record {
           stage = k;
+          inside = b .inside;
           together = e;
           parted = λ same.
               let f : state n (normalTag n s cs) k ≡ state n (normalTag n s ds) k =
@@ -170,29 +165,59 @@ same-or-parted (c ∷ cs) (e ∷ ds) l = go (ℕ-discrete c e) (same-or-parted c
         inr (record { stage = suc (y .stage); together = ap₂ (λ (u : ℕ) (v : List ℕ). u ∷ v) x (y .together); parted = y .parted })
     go (no x) y = inr (record { stage = 0; together = refl; parted = x })
 
--- no two clear paths are first
-pub first-once : (n : ℕ) (stops : Rule) (s d : ℕ) (cs ds : List ℕ) → First n stops s d cs → First n stops s d ds → cs ≡ ds
-first-once n stops s d cs ds p q = go (same-or-parted cs ds (pc .steps .stages ∙ sym (pd .steps .stages)))
+-- where paths part they are still inside
+inside-stage : (n : ℕ) (cs ds : List ℕ) (k : ℕ) → length cs ≡ n → length ds ≡ n → (getD cs k 0 ≡ getD ds k 0 → ⊥) → k < n
+inside-stage n cs ds k lc ld parted = go (decLt k n)
   where
-    pc : Path n s d cs
-    pc = p .clearPath .path
+    go : Dec (k < n) → k < n
+    go (yes h) = h
+    go (no h) = absurd (parted (List·getD-eq-default cs 0 (omega arith) ∙ sym (List·getD-eq-default ds 0 (omega arith))))
 
-    pd : Path n s d ds
-    pd = q .clearPath .path
+module _ (n : ℕ) (stops : Rule) (s d : ℕ) where
+  -- the first clear path is the one that comes before every other
+  pub first-exactly : (cs : List ℕ)
+      → First n stops s d cs ↔ (ClearPath n stops s d cs × ((ds : List ℕ) → ClearPath n stops s d ds → (cs ≡ ds) ⊎ ComesBefore n s cs ds))
+  first-exactly cs = (λ w. (w .clearPath, λ ds q. before w ds q), λ w. record { clearPath = w .0; first = λ ds q b. never (w .0) ds q b (w .1 ds q) })
+    where
+      never : ClearPath n stops s d cs → (ds : List ℕ) → ClearPath n stops s d ds → ComesBefore n s ds cs → (cs ≡ ds) ⊎ ComesBefore n s cs ds → ⊥
+      never p ds q b (inl e) = b .parted (ap (λ (xs : List ℕ). getD xs (b .stage) 0) (sym e))
+      never p ds q b (inr c) =
+          let k = earlier-key n s d ds cs (q .path) (p .path) b in
+          let l = earlier-key n s d cs ds (p .path) (q .path) c in
+          absurd (omega arith)
 
-    at : (w : Parted cs ds) → (x y : ℕ)
-        → stateFor (bit (w .stage) (switchAt n s cs (w .stage))) (getD cs (w .stage) 0) ≡ x
-        → stateFor (bit (w .stage) (switchAt n s ds (w .stage))) (getD ds (w .stage) 0) ≡ y → x < 2 → y < 2 → ⊥
-    at w zero y ex ey hx hy =
-        q .first cs (p .clearPath) (record { stage = w .stage; together = w .together; parted = w .parted; zeroThere = ex })
-    at w (suc x) zero ex ey hx hy =
-        p .first ds (q .clearPath) (record { stage = w .stage; together = sym (w .together); parted = λ e. w .parted (sym e); zeroThere = ey })
-    at w (suc x) (suc y) ex ey hx hy =
-        let h = inside-stage n cs ds (w .stage) (pc .steps .stages) (pd .steps .stages) (w .parted) in
-        let e : suc x ≡ suc y = omega arith in
-        w .parted (same-state-same-code n s d cs ds pc pd (w .stage) h (w .together) (ex ∙ e ∙ sym ey))
+      before : First n stops s d cs → (ds : List ℕ) → ClearPath n stops s d ds → (cs ≡ ds) ⊎ ComesBefore n s cs ds
+      before w ds q = go (same-or-parted cs ds (pc .steps .stages ∙ sym (pd .steps .stages)))
+        where
+          pc : Path n s d cs
+          pc = w .clearPath .path
 
-    go : (cs ≡ ds) ⊎ Parted cs ds → cs ≡ ds
-    go (inl e) = e
-    go (inr w) =
-        absurd (at w _ _ refl refl (stateFor-lt (bit (w .stage) (switchAt n s cs (w .stage))) (getD cs (w .stage) 0)) (stateFor-lt (bit (w .stage) (switchAt n s ds (w .stage))) (getD ds (w .stage) 0)))
+          pd : Path n s d ds
+          pd = q .path
+
+          at : (v : Parted cs ds) → v .stage < n → (x y : ℕ)
+              → stateFor (bit (v .stage) (switchAt n s cs (v .stage))) (getD cs (v .stage) 0) ≡ x
+              → stateFor (bit (v .stage) (switchAt n s ds (v .stage))) (getD ds (v .stage) 0) ≡ y → x < 2 → y < 2 → ComesBefore n s cs ds
+          at v h zero y ex ey hx hy = record { stage = v .stage; inside = h; together = v .together; parted = v .parted; zeroThere = ex }
+          at v h (suc x) zero ex ey hx hy =
+              absurd
+              (w .first ds q (record { stage = v .stage; inside = h; together = sym (v .together); parted = λ e. v .parted (sym e); zeroThere = ey }))
+          at v h (suc x) (suc y) ex ey hx hy =
+              let e : suc x ≡ suc y = omega arith in
+              absurd (v .parted (same-state-same-code n s d cs ds pc pd (v .stage) h (v .together) (ex ∙ e ∙ sym ey)))
+
+          go : (cs ≡ ds) ⊎ Parted cs ds → (cs ≡ ds) ⊎ ComesBefore n s cs ds
+          go (inl e) = inl e
+          go (inr v) =
+              inr
+              (at v (inside-stage n cs ds (v .stage) (pc .steps .stages) (pd .steps .stages) (v .parted)) _ _ refl refl
+              (stateFor-lt (bit (v .stage) (switchAt n s cs (v .stage))) (getD cs (v .stage) 0))
+              (stateFor-lt (bit (v .stage) (switchAt n s ds (v .stage))) (getD ds (v .stage) 0)))
+
+  -- no two clear paths are first
+  pub first-once : (cs ds : List ℕ) → First n stops s d cs → First n stops s d ds → cs ≡ ds
+  first-once cs ds p q = go (first-exactly cs .0 p .1 ds (q .clearPath))
+    where
+      go : (cs ≡ ds) ⊎ ComesBefore n s cs ds → cs ≡ ds
+      go (inl e) = e
+      go (inr b) = absurd (q .first cs (p .clearPath) b)

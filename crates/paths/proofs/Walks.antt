@@ -12,7 +12,7 @@ use Rattle.fabric.specs.Walks.{Codes, walked, switchAt}
 use Rattle.fabric.proofs.Bits.{agree-below, agree-less}
 use Rattle.fabric.proofs.Stages.{walked-lt, walked-on, switch-next, on-the-way}
 use Rattle.scheme.proofs.NormalTags.{code-at}
-use Rattle.paths.specs.Clear.{Rule, ClearPath, Onward, StageNamed}
+use Rattle.paths.specs.Clear.{Rule, ClearPath, Onward}
 
 codes-take : (k : ℕ) (cs : List ℕ) → Codes cs → Codes (take k cs)
 codes-take zero cs h = tt
@@ -113,7 +113,3 @@ module _ (n : ℕ) (stops : Rule) (s d : ℕ) where
         clear = p .clear;
         agrees = ap (λ (x : ℕ). x % 2 ^ n) (p .path .arrives);
       }
-
-  -- a stage is named once
-  pub stage-once : (i j : ℕ) → StageNamed n stops s d i → StageNamed n stops s d j → i ≡ j
-  stage-once i j p q = let a = p .least j (q .none) in let b = q .least i (p .none) in omega arith

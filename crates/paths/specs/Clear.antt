@@ -31,12 +31,13 @@ pub record ClearPath (n : ℕ) (stops : Rule) (s d : ℕ) (cs : List ℕ) : Type
 -- normal tags, stage 0 first (proofs/Order.antt).
 pub record ComesBefore (n s : ℕ) (cs ds : List ℕ) : Type 0 where
   pub stage : ℕ
+  pub inside : stage < n
   pub together : take stage cs ≡ take stage ds
   pub parted : getD cs stage 0 ≡ getD ds stage 0 → ⊥
   pub zeroThere : stateFor (bit stage (switchAt n s cs stage)) (getD cs stage 0) ≡ 0
 
--- "Among clear paths from s to d, the first": a clear path that no clear path comes before. `first-once` says that there is
--- at most one (proofs/Order.antt), `found-first` that the frontier finds it (proofs/Frontier.antt).
+-- "Among clear paths from s to d, the first": a clear path that no clear path comes before. `first-exactly` says that it comes before
+-- every other clear path, `first-once` that there is at most one (proofs/Order.antt).
 pub record First (n : ℕ) (stops : Rule) (s d : ℕ) (cs : List ℕ) : Type 0 where
   pub clearPath : ClearPath n stops s d cs
   pub first : (ds : List ℕ) → ClearPath n stops s d ds → ComesBefore n s ds cs → ⊥
@@ -50,12 +51,12 @@ pub record Onward (n : ℕ) (stops : Rule) (s d k : ℕ) (cs : List ℕ) : Type 
   pub agrees : Agree k (walked n 0 s cs) d
 
 -- "no clear walk of i+1 links from s arrives at a label that agrees with d in its low i+1 bits". Then no path is clear: `none-clear`
--- (proofs/Frontier.antt).
+-- (proofs/Named.antt).
 abbrev pub NoneCross : ℕ → Rule → ℕ → ℕ → ℕ → Type 0
 NoneCross n stops s d i = (cs : List ℕ) → Onward n stops s d (suc i) cs → ⊥
 
--- "the stage named is the least" such i. `stage-once` says that there is at most one (proofs/Walks.antt), `stage-named` that it is the
--- stage where the frontier is empty (proofs/Frontier.antt).
+-- "the stage named is the least" such i. `stage-once` says that there is at most one, `stage-named` that it is the first stage that
+-- clear walks reach and do not cross (proofs/Named.antt).
 pub record StageNamed (n : ℕ) (stops : Rule) (s d i : ℕ) : Type 0 where
   pub none : NoneCross n stops s d i
   pub least : (k : ℕ) → NoneCross n stops s d k → i ≤ k

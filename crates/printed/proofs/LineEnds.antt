@@ -11,7 +11,7 @@ use Rattle.table.specs.declared.Refusal.{Refusal}
 use Rattle.table.specs.Numbers.{numberOf}
 use Rattle.table.specs.Checks.{_below_}
 use Rattle.fabric.specs.Labels.{bit}
-use Rattle.crossing.specs.declared.Found.{Found}
+use Rattle.routes.specs.declared.Found.{Found}
 use Rattle.book.specs.declared.Book.{Book}
 use Rattle.book.specs.declared.Answer.{Answer}
 use Rattle.actions.specs.declared.Action.{Action}

@@ -17,11 +17,11 @@ use Rattle.standing.proofs.Distinct.{distinct-reordered}
 use Rattle.book.proofs.Since.{same-book}
 use Rattle.book.proofs.Once.{files-once, withdraws-once, tests-once, lists-once}
 use Rattle.walks.specs.declared.Ended.{Ended}
-use Rattle.crossing.specs.declared.Found.{Found}
+use Rattle.routes.specs.declared.Found.{Found}
 use Rattle.walks.specs.Entries.{Walks}
-use Rattle.router.specs.Entries.{Routes}
+use Rattle.routes.specs.Routed.{Routes}
 use Rattle.walks.proofs.Entries.{walk-once}
-use Rattle.router.proofs.Entries.{route-once}
+use Rattle.routes.proofs.Entries.{route-once}
 
 -- "in any order": of a list of the notices accepted and not withdrawn since, none twice, any other order makes that book too.
 -- `since-list` says that every run has such a list.

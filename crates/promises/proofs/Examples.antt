@@ -15,7 +15,7 @@ use Rattle.tags.specs.declared.Tag.{Tag}
 use Rattle.scheme.specs.Tags.{steered, stepsOf, statesOf, normalTag}
 use Rattle.tags.specs.Entries.{tagToStepsChecks, normalFormChecks}
 use Rattle.tags.proofs.Promises.{to-steps-accepts, form-accepts}
-use Rattle.paths.specs.Frontier.{high, through, lesser, advanced, mirrored}
+use Rattle.frontier.specs.Frontier.{high, through, lesser, advanced, mirrored}
 use Rattle.book.specs.declared.Book.{Book}
 use Rattle.book.specs.Standing.{standing, stopper, stopsOf}
 use Rattle.standing.specs.Rising.{stands, insert, without, misfiled, littered}
@@ -24,10 +24,9 @@ use Rattle.book.specs.Entries.{opened, linkChecks, Tests}
 use Rattle.book.specs.Runs.{Change, changeChecks, after, run, AllAccepted}
 use Rattle.book.proofs.Changes.{taken}
 use Rattle.book.proofs.Answers.{link-stopped}
-use Rattle.crossing.specs.declared.Found.{Found}
-use Rattle.router.specs.Entries.{routeChecks, Routes}
-use Rattle.crossing.specs.Routed.{Routed}
-use Rattle.router.proofs.Promises.{route-passes}
+use Rattle.routes.specs.declared.Found.{Found}
+use Rattle.routes.specs.Routed.{Routed, routeChecks, Routes}
+use Rattle.routes.proofs.Entries.{route-passes}
 use Rattle.promises.specs.Examples.{Example, Claim, examples, AllHold}
 use Rattle.promises.proofs.Found.{answerFrom, routeOf, route-of}
 

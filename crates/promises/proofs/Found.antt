@@ -8,13 +8,13 @@ use native.Mathlib.Omega.{arith}
 use borrow.Author.Tests.{ltb-true, ltb-false}
 use lib.Dec.{eqb, ltb}
 use Rattle.fabric.specs.Labels.{size, bit}
-use Rattle.paths.specs.declared.Front.{Front}
+use Rattle.frontier.specs.declared.Front.{Front}
 use Rattle.paths.specs.Clear.{Rule}
-use Rattle.paths.specs.Frontier.{start, high, lesser, advanced, mirrored, stopsFrom}
-use Rattle.paths.proofs.Places.{start-reached}
-use Rattle.paths.proofs.Frontier.{Holds, looks-from, start-holds, advanced-holds}
-use Rattle.crossing.specs.declared.Found.{Found}
-use Rattle.crossing.specs.Routed.{Routed}
+use Rattle.frontier.specs.Frontier.{start, high, lesser, advanced, mirrored, stopsFrom}
+use Rattle.frontier.proofs.Places.{start-reached}
+use Rattle.frontier.proofs.Frontier.{Holds, looks-from, start-holds, advanced-holds}
+use Rattle.routes.specs.declared.Found.{Found}
+use Rattle.routes.specs.Routed.{Routed}
 use Rattle.crossing.proofs.Routing.{none-ahead, found-ahead}
 
 -- the frontier one stage on, and the high switch of the next column with it

@@ -23,9 +23,8 @@ use Rattle.book.specs.Entries.{answerSays, linkSays, opened, fileChecks, withdr
 use Rattle.book.specs.Runs.{Change, changeChecks, answer, after, Accepted, run, NotWithdrawn, StandsSince}
 use Rattle.book.proofs.Once.{answer-tells}
 use Rattle.book.proofs.Since.{link-exactly}
-use Rattle.crossing.specs.declared.Found.{Found}
-use Rattle.crossing.specs.Routed.{routeSays, Routed}
-use Rattle.router.specs.Entries.{routeChecks, Routes}
+use Rattle.routes.specs.declared.Found.{Found}
+use Rattle.routes.specs.Routed.{routeSays, Routed, routeChecks, Routes}
 use Rattle.promises.specs.Controllers.{Controller, FilesAsPromised, RoutesAsPromised, Accepts, ownRun, NeverWithdrawn, Holds, Named, StopsWhatIsNamed}
 use Rattle.promises.proofs.Found.{routeOf, route-of}
 

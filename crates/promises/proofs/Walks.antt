@@ -14,9 +14,9 @@ use Rattle.book.specs.Standing.{stopsOf}
 use Rattle.paths.specs.Clear.{Clear}
 use Rattle.walks.proofs.Entries.{walked-once}
 use Rattle.walks.specs.declared.Ended.{Ended}
-use Rattle.crossing.specs.declared.Found.{Found}
+use Rattle.routes.specs.declared.Found.{Found}
 use Rattle.walks.specs.Entries.{walkChecks, Walked, Walks}
-use Rattle.router.specs.Entries.{routeChecks, Routes}
+use Rattle.routes.specs.Routed.{routeChecks, Routes}
 
 pub route-walks-clear : (b : Book) (s d t : ℕ) → Passed (routeChecks b s d) → Routes b s d (Found.Tag t) → (a : Ended) → Walks b s t a → a ≡ Ended.Clear
 route-walks-clear b s d t passed answers a walks =

@@ -21,10 +21,9 @@ use Rattle.book.specs.Standing.{stopper, stopsOf}
 use Rattle.standing.specs.Rising.{stands, insert, misfiled, littered}
 use Rattle.book.specs.Entries.{answerSays, opened}
 use Rattle.book.specs.Runs.{Change, run}
-use Rattle.crossing.specs.declared.Found.{Found}
-use Rattle.router.specs.Entries.{routeChecks, Routes}
-use Rattle.crossing.specs.Routed.{Routed}
-use Rattle.router.proofs.Entries.{route-once}
+use Rattle.routes.specs.declared.Found.{Found}
+use Rattle.routes.specs.Routed.{Routed, routeChecks, Routes}
+use Rattle.routes.proofs.Entries.{route-once}
 use Rattle.promises.specs.Examples.{links}
 use Rattle.promises.specs.Controllers.{Controller, FilesAsPromised, RoutesAsPromised, SaysElevenAlways, GivesTagZeroAlways, InventsAStage, RefusesEveryFiling, LooksOnlyWhereItStands, GivesUp, Accepts, ownRun, ended, NeverWithdrawn, Holds, Named, IsLink, StopsWhatIsNamed, SameLinks, AcceptsAfter, FilesNothing, StoresTheFirstOnly, OpensForBoth, PlusAndMinusOneLink}
 use Rattle.promises.proofs.Examples.{row-holds}

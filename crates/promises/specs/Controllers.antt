@@ -21,8 +21,8 @@ use Rattle.book.specs.declared.Link.{Link}
 use Rattle.book.specs.Standing.{stopsOf}
 use Rattle.book.specs.Entries.{Files}
 use Rattle.book.specs.Runs.{Change}
-use Rattle.crossing.specs.declared.Found.{Found}
-use Rattle.router.specs.Entries.{routeChecks, Routes}
+use Rattle.routes.specs.declared.Found.{Found}
+use Rattle.routes.specs.Routed.{routeChecks, Routes}
 
 -- what a controller does, over books of a kind of its own: the book that it opens, its answer to a change and the book after it, its
 -- link test and its routes

@@ -9,8 +9,8 @@ use Rattle.notices.specs.declared.Target.the-variants.{Links}
 use Rattle.book.specs.declared.Link.{Link}
 use Rattle.book.specs.Entries.{opened, Tests}
 use Rattle.book.specs.Runs.{Change, run, AllAccepted}
-use Rattle.crossing.specs.declared.Found.{Found}
-use Rattle.router.specs.Entries.{Routes}
+use Rattle.routes.specs.declared.Found.{Found}
+use Rattle.routes.specs.Routed.{Routes}
 
 pub data Example : Type 0 where
   -- a size, the changes made to an empty book, a source, a destination, and the route's answer

@@ -1,4 +1,3 @@
 pub mod Marking
 pub mod Promises
 pub mod Filing
-pub mod Entries

@@ -20,10 +20,10 @@ use Rattle.notices.specs.declared.Target.the-variants.{Links, Switch, Pattern}
 use Rattle.notices.specs.Targets.{names}
 use Rattle.book.specs.Standing.{stopper}
 use Rattle.standing.proofs.Arrays.{next-of}
-use Rattle.paths.specs.declared.Stops.{Stops}
+use Rattle.frontier.specs.declared.Stops.{Stops}
 use Rattle.paths.specs.Clear.{Rule}
-use Rattle.paths.specs.Frontier.{high, low, stopsFrom}
-use Rattle.paths.proofs.Pivots.{highRight, high-straight, low-plus, low-minus, high-plus, high-minus, low-straight}
+use Rattle.frontier.specs.Frontier.{high, low, stopsFrom}
+use Rattle.frontier.proofs.Pivots.{highRight, high-straight, low-plus, low-minus, high-plus, high-minus, low-straight}
 use Rattle.crossing.specs.Marked.{Marked, unmarked}
 use Rattle.router.specs.Marks.{columnOf, tellsOf, marksOf, marksAt}
 

@@ -8,8 +8,8 @@ use lib.Bits.{bitAnd}
 use lib.ListN.{getD}
 use Rattle.fabric.specs.Labels.{bit}
 use Rattle.fabric.specs.Links.{lands}
-use Rattle.paths.specs.declared.Stops.{Stops}
-use Rattle.paths.specs.Frontier.{high, low}
+use Rattle.frontier.specs.declared.Stops.{Stops}
+use Rattle.frontier.specs.Frontier.{high, low}
 use Rattle.notices.specs.declared.Notice.{Notice}
 use Rattle.notices.specs.declared.Target.{Target}
 use Rattle.notices.specs.declared.Target.the-variants.{Links, Switch, Pattern}

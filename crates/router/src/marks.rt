@@ -1,8 +1,8 @@
 // Which numbers stop the links that lie on ways from a source to a destination. A notice is held against the two switches of
 // its own column alone, and most notices speak of neither.
+use frontier::Stops;
 use notices::Notice;
 use notices::Target;
-use paths::Stops;
 ghost use mathlib.Core.Path.{_≡_};
 ghost use mathlib.Core.Bool.{false, cond, _||_};
 ghost use Prim.Native.Nat.{ℕ, _+_, _≤_, _<_};

@@ -8,10 +8,10 @@ use borrow.Author.Tests.{not-true, not-false}
 use borrow.Author.Needs.{needs}
 use lib.Dec.{eqb}
 use Rattle.fabric.specs.Labels.{size}
-use Rattle.paths.proofs.Places.{few-labels, start-reached, advanced-small, small-fits}
+use Rattle.frontier.proofs.Places.{few-labels, start-reached, advanced-small, small-fits}
 use Rattle.paths.specs.Clear.{Rule}
-use Rattle.paths.proofs.Frontier.{Holds, start-holds}
-use Rattle.paths.specs.Frontier.{Small, lesser}
+use Rattle.frontier.proofs.Frontier.{Holds, start-holds}
+use Rattle.frontier.specs.Frontier.{Small, lesser}
 use Rattle.crossing.specs.Marked.{Marked}
 use Rattle.crossing.proofs.Apart.{right-where}
 use Rattle.crossing.proofs.Routing.{front-on, none-ahead, found-ahead}

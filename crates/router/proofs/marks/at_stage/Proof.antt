@@ -5,7 +5,7 @@ use Prim.Native.Nat.{ℕ, _<_}
 use borrow.Author.Needs.{needs}
 use lib.Dec.{eqb}
 use Rattle.notices.specs.declared.Notice.{Notice}
-use Rattle.paths.specs.declared.Stops.{Stops}
+use Rattle.frontier.specs.declared.Stops.{Stops}
 use Rattle.router.specs.Marks.{marksOf}
 use Rattle.router.proofs.marks.at_stage.Statement.{statement}
 use Rattle.router.proofs.marks.at_stage.Tie as tie

@@ -1,0 +1,109 @@
+// The frontier of clear walks toward a destination, carried forward stage by stage: at most two switches in each column.
+ghost use mathlib.Core.Path.{_≡_};
+ghost use mathlib.Core.Bool.{cond, true, false};
+ghost use Prim.Native.Nat.{_+_, _*_, _≤_, _<_};
+ghost use Rattle.fabric.specs.Labels.{size};
+ghost use Rattle.frontier.specs.Frontier.{start, lostBy, through, lesser, advanced, mirrored};
+
+// The two switches of a column: the high one, and the low one 2^i below it. Of each is held the first clear walk that reaches
+// it, as the states of its steps in one number, that of stage 0 highest: of two walks the lesser comes first. N or more is
+// no walk.
+pub struct Front {
+    pub high: u32,
+    pub low: u32,
+}
+
+// Which numbers stop the links out of a column's two switches that lead toward the destination: the straight link of the
+// one whose bit is right, and the nonstraight links of the other. 0 is clear.
+pub struct Stops {
+    pub straight: u16,
+    pub plus: u16,
+    pub minus: u16,
+}
+
+// In column 0 the source alone is reached.
+pub fn at_source(n: u8) -> Front
+    requires { ⌜ n ≤ 12 ⌝ }
+    ensures { λ r. ⌜ r ≡ start n ⌝ }
+{
+    Front {
+        high: 0,
+        low: fabric::size(n) as u32,
+    }
+}
+
+// What makes a walk none where a number stops its link.
+fn lost_by(n: u8, stop: u16) -> u32
+    requires { ⌜ n ≤ 12 ⌝ }
+    ensures { λ r. ⌜ r ≡ lostBy n stop ⌝ }
+{
+    if stop == 0 {
+        return 0;
+    }
+    fabric::size(n) as u32
+}
+
+// A walk with one link more, taken in a state, that a number stops. After 12 links its number is still below 2^26.
+fn by_link(n: u8, walk: u32, stop: u16, state: u8) -> u32
+    requires { ⌜ (n ≤ 12) × (state < 2) × (walk < 33554432) ⌝ }
+    ensures { λ r. ⌜ r ≡ through n walk stop state ⌝ }
+{
+    walk * 2 + state as u32 + lost_by(n, stop)
+}
+
+// Of two ways to one switch, the one that comes first.
+fn first_of(p: u32, q: u32) -> u32
+    ensures { λ r. ⌜ r ≡ lesser p q ⌝ }
+{
+    if p <= q {
+        return p;
+    }
+    q
+}
+
+fn chosen(first: bool, p: u32, q: u32) -> u32
+    ensures { λ r. ⌜ r ≡ cond first p q ⌝ }
+{
+    if first { p } else { q }
+}
+
+// The frontier one stage on, toward a destination with bit t. The switch whose bit is right goes straight; the other one
+// forks, plus up and minus down.
+pub fn advance(n: u8, front: Front, right: bool, t: u8, stops: Stops) -> Front
+    requires { ⌜ (n ≤ 12) × (t < 2) × (front .high < 33554432) × (front .low < 33554432) ⌝ }
+    ensures { λ r. ⌜ r ≡ advanced n right t stops front ⌝ }
+{
+    let stays = chosen(right, front.high, front.low);
+    let forks = chosen(right, front.low, front.high);
+    let straight = by_link(n, stays, stops.straight, 0);
+    let up = by_link(n, forks, stops.plus, 1 - t);
+    let down = by_link(n, forks, stops.minus, t);
+    let met = first_of(straight, chosen(right, up, down));
+    Front {
+        high: chosen(right, met, up),
+        low: chosen(right, down, met),
+    }
+}
+
+// Whether one of the two switches is reached.
+pub fn reached(n: u8, front: Front) -> bool
+    requires { ⌜ n ≤ 12 ⌝ }
+    ensures { λ r. ⌜ (r ≡ true → lesser (front .high) (front .low) < size n) × (r ≡ false → size n ≤ lesser (front .high) (front .low)) ⌝ }
+{
+    first_of(front.high, front.low) < fabric::size(n) as u32
+}
+
+// The states of the first of all walks to column n, that of stage 0 lowest, as a tag has them.
+pub fn first_states(n: u8, front: Front) -> u32
+    requires { ⌜ (n ≤ 12) × (lesser (front .high) (front .low) < size n) ⌝ }
+    ensures { λ r. ⌜ (r ≡ mirrored n (lesser (front .high) (front .low))) × (r < size n) ⌝ }
+{
+    let walk = first_of(front.high, front.low) as u16;
+    let mut states: u32 = 0;
+    let mut i = 0;
+    while i < n {
+        states = states * 2 + fabric::bit_of(i, walk) as u32;
+        i += 1;
+    }
+    states
+}

@@ -1,0 +1,38 @@
+-- Document 01, 'Tags and steps' and 'Numbers handed back': what a route answers. The theorems named here stand in proofs/Once.antt, over
+-- any rule, and in proofs/Entries.antt, over a book.
+use mathlib.Core.Path.{_≡_}
+use mathlib.Core.Bool.{_||_}
+use mathlib.Core.List.{List, [], _∷_}
+use Prim.Native.Nat.{ℕ}
+use Rattle.table.specs.Numbers.{numberOf}
+use Rattle.table.specs.Reply.{Reply, refused}
+use Rattle.table.specs.Checks.{Check, Given, Passed, _when_, _notBelow_}
+use Rattle.fabric.specs.Labels.{size}
+use Rattle.scheme.specs.Tags.{normalTag}
+use Rattle.paths.specs.Clear.{Rule, ClearPath, First, StageNamed}
+use Rattle.book.specs.declared.Book.{Book}
+use Rattle.book.specs.Standing.{unsound, stopsOf}
+use Rattle.routes.specs.declared.Found.{Found}
+
+-- the number and values of each answer: 11 comes with a stage. `tag-exactly` and `eleven-routed` say what the answer is exactly where
+-- it is accepted and where it is 11, `found-numbered` that no refusal has number 0.
+abbrev pub routeSays : Found → Reply
+routeSays (Found.Tag t) = Reply.accepted (t ∷ [])
+routeSays (Found.None i) = Reply.refusedWith 11 (i ∷ [])
+routeSays (Found.Refused r) = refused (numberOf r)
+
+-- "The route answer is that path's normal tag"; "11: no clear path, with the stage". `routed-once` says that there is at most one answer.
+abbrev pub Routed : ℕ → Rule → ℕ → ℕ → Found → Type 0
+Routed n stops s d (Found.Tag t) = (cs : List ℕ) × First n stops s d cs × (t ≡ normalTag n s cs)
+Routed n stops s d (Found.None i) = ((cs : List ℕ) → ClearPath n stops s d cs → ⊥) × StageNamed n stops s d i
+Routed n stops s d (Found.Refused r) = ⊥
+
+-- "route: 16, 10", and then. `route-order` reads the numbers off, `route-lets-pass` says what passes.
+abbrev pub routeChecks : Book → ℕ → ℕ → List Check
+routeChecks b s d = (16 when unsound b) ∷ (10 when (s notBelow size (b .n) || d notBelow size (b .n))) ∷ []
+
+-- Past them, what 01 says of all paths over the links that the book stops: `tag-exactly` and `eleven-exactly` say when a tag is given and
+-- when 11; `route-once`: no second answer.
+pub record Routes (b : Book) (s d : ℕ) (answer : Found) : Type 0 where
+  pub refuses : (k : ℕ) → Given k (routeChecks b s d) → routeSays answer ≡ refused k
+  pub routes : Passed (routeChecks b s d) → Routed (b .n) (stopsOf b) s d answer
