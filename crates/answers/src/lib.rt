@@ -7,9 +7,9 @@ use words::refusal_told;
 use words::word;
 ghost use Prim.Native.Nat.{ℕ, _+_, _≤_};
 ghost use lib.ListN.{length};
-ghost use Rattle.words.specs.Words.{ending};
+ghost use Rattle.printed.specs.Words.{ending};
 ghost use Rattle.words.specs.Wrote.{Wrote};
-ghost use Rattle.answers.specs.Told.{told, foundTold};
+ghost use Rattle.printed.specs.Told.{told, foundTold};
 
 // "`OK`, or `REFUSED` and the table number"
 pub fn answer_told(out: &mut [u8], at: usize, answer: Answer) -> usize

@@ -51,7 +51,7 @@ fn wide(x: u8) -> usize
 }
 
 fn run(sheet: &[u8], memory: &mut [u8]) {
-    match printed::run(sheet, memory) {
+    match printer::run(sheet, memory) {
         Ran::Printed(bytes) => print(memory, bytes),
         Ran::Refused(why) => refused(why),
     }

@@ -9,7 +9,7 @@ use Rattle.tags.proofs.Entries.{tag-to-steps-once}
 use Rattle.tags.specs.declared.Written.{Written}
 use Rattle.printed.specs.declared.Ran.{Ran}
 use Rattle.printed.specs.Runs.{ranSays, Runs}
-use Rattle.printed.proofs.Once.{run-once}
+use Rattle.printed.proofs.RunOnce.{run-once}
 
 pub steps-told-once : (n s tag : ℕ) (before after later : List ℕ) (q r : ℕ)
     → Tells (λ a. TagToSteps n s tag before a after) writtenSays q → Tells (λ a. TagToSteps n s tag before a later) writtenSays r → (q ≡ r) × (after ≡ later)

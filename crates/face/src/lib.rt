@@ -254,5 +254,5 @@ pub extern "C" fn tabashfar_action_fields(part: &[u8], memory: &mut [u16]) -> u6
 pub extern "C" fn tabashfar_run(sheet: &[u8], memory: &mut [u8]) -> u64
     ensures { λ r. ⌜ Tells (λ a. Runs (now (sheet .entry)) (now (memory .entry)) a (now (memory .exit))) ranSays r ⌝ }
 {
-    ran(printed::run(sheet, memory))
+    ran(printer::run(sheet, memory))
 }

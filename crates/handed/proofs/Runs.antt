@@ -4,7 +4,7 @@ use mathlib.Core.List.{List}
 use Prim.Native.Nat.{ℕ}
 use Rattle.book.specs.declared.Book.{Book}
 use Rattle.actions.specs.declared.Action.{Action}
-use Rattle.lines.specs.Lines.{LineOf}
+use Rattle.printed.specs.Lines.{LineOf}
 use Rattle.printed.specs.Runs.{Lines, Lines.start, Lines.more}
 use Rattle.handed.specs.Books.{Leaves, After, After.start, After.more}
 use Rattle.handed.proofs.Once.{after-once}

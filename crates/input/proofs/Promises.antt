@@ -16,7 +16,7 @@ use Rattle.table.proofs.Checks.{zero-one}
 use Rattle.sheet.proofs.Sheets.{header-once}
 use Rattle.printed.specs.declared.Ran.{Ran}
 use Rattle.printed.specs.Runs.{room, runChecks, ranSays, Printed, Runs}
-use Rattle.printed.proofs.Once.{prints-once}
+use Rattle.printed.proofs.RunOnce.{prints-once}
 use Rattle.input.specs.declared.Input.{Input}
 use Rattle.input.specs.declared.Output.{Output}
 use Rattle.input.specs.Rooms.{inputRoom, textRoom}

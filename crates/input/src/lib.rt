@@ -39,7 +39,7 @@ fn run_sheet(sheet: &[u8], lines: &mut [u8]) -> Output
     requires { ⌜ textRoom ≤ length (now lines) ⌝ }
     ensures { λ r. ⌜ Writes (now (sheet .entry)) (now (lines .entry)) r (now (lines .exit)) ⌝ }
 {
-    match printed::run(sheet, lines) {
+    match printer::run(sheet, lines) {
         Ran::Printed(bytes) => Output::Text(bytes),
         Ran::Refused(_) => Output::Unread,
     }

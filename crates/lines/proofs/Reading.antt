@@ -6,7 +6,7 @@ use Rattle.book.specs.declared.Book.{Book}
 use Rattle.actions.specs.declared.Action.{Action}
 use Rattle.actions.specs.Entries.{ReadsAction}
 use Rattle.lines.specs.declared.Next.{Next}
-use Rattle.lines.specs.Lines.{LineWritten, LineAtWritten}
+use Rattle.lines.specs.Written.{LineWritten, LineAtWritten}
 
 -- a line of the action that was read
 pub line-read : {n at : ℕ} {b : Book} {part before after : List ℕ} {r : Next} {a told : Action}

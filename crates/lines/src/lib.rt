@@ -10,8 +10,8 @@ use words::refusal_told;
 use words::word;
 ghost use Prim.Native.Nat.{ℕ, _+_, _≤_};
 ghost use lib.ListN.{length};
-ghost use Rattle.answers.specs.Told.{told};
-ghost use Rattle.lines.specs.Lines.{LineAtWritten, LineWritten};
+ghost use Rattle.printed.specs.Told.{told};
+ghost use Rattle.lines.specs.Written.{LineAtWritten, LineWritten};
 
 // What is handed on to the next action: the book, and the place after what is written.
 pub struct Next {

@@ -16,10 +16,10 @@ use Rattle.book.specs.declared.Book.{Book}
 use Rattle.book.specs.declared.Answer.{Answer}
 use Rattle.actions.specs.declared.Action.{Action}
 use Rattle.sheet.specs.declared.Header.{Header}
-use Rattle.words.specs.Words.{decimalIn, decimal, bitsFrom, tagBits, ending, line, refusal, SHEET, FILE, WITHDRAW, ROUTE, ACTION}
-use Rattle.answers.specs.Told.{told, foundTold}
-use Rattle.lines.specs.Text.{sheetLine}
-use Rattle.lines.specs.Lines.{LineOf}
+use Rattle.printed.specs.Words.{decimalIn, decimal, bitsFrom, tagBits, ending, line, refusal, SHEET, FILE, WITHDRAW, ROUTE, ACTION}
+use Rattle.printed.specs.Told.{told, foundTold}
+use Rattle.printed.specs.Text.{sheetLine}
+use Rattle.printed.specs.Lines.{LineOf}
 use Rattle.printed.specs.Runs.{Lines, Lines.start, Lines.more, Prints}
 use Rattle.printed.specs.LineEnds.{lineEnds, linesOf}
 use Rattle.printed.proofs.Texts.{first-line, refused-text}

@@ -2,9 +2,8 @@
 use mathlib.Core.Path.{_≡_, refl, sym, ap, _∙_}
 use mathlib.Core.Bool.{not}
 use mathlib.Core.Logic.{_⊎_, inl, inr}
-use mathlib.Core.List.{List, [], _∷_}
+use mathlib.Core.List.{List, [], _∷_, _++_}
 use Prim.Native.Nat.{ℕ, _+_, _≤_, _<_}
-use native.Mathlib.Nat.{zero-add}
 use native.Mathlib.Omega.{arith}
 use borrow.Author.Tests.{le-ltb, ltb-false}
 use lib.Dec.{eqb}
@@ -18,8 +17,6 @@ use Rattle.sheet.specs.Format.{sizeIn, countIn, bytesBefore}
 use Rattle.sheet.specs.Entries.{headerChecks, ReadsHeader}
 use Rattle.sheet.proofs.Promises.{header-passed, header-fields}
 use Rattle.printed.specs.declared.Ran.{Ran}
-use Rattle.words.specs.Wrote.{Wrote}
-use Rattle.words.proofs.Writing.{wrote-front}
 use Rattle.printed.proofs.Texts.{thirteen-exactly}
 use Rattle.printed.specs.Runs.{Prints, room, runChecks, ranSays, RunsBy, Runs}
 
@@ -41,12 +38,14 @@ module _ (sheet : List ℕ) (header : Header) (before : List ℕ) where
         prints = λ p. absurd (not-given-and-passed 13 (runChecks header before) g p);
       }
 
-  pub runs-whole : {text after : List ℕ} {next : ℕ} → room header ≤ length before → Prints sheet header text → Wrote before 0 text after next → next ≤ room header → RunsBy sheet header before (Ran.Printed next) after
-  runs-whole {text} {after} {next} h p w short =
+  pub runs-whole : (text : List ℕ) {after : List ℕ} {bytes : ℕ}
+      → room header ≤ length before → Prints sheet header text → bytes ≡ length text → after ≡ text ++ drop (length text) before → bytes ≤ room header
+      → RunsBy sheet header before (Ran.Printed bytes) after
+  runs-whole text h p l leaves short =
       let q : Passed (runChecks header before) = passes (le-ltb (length before) (room header) h) none in
       record {
         refuses = λ k g. absurd (not-given-and-passed k (runChecks header before) g q);
-        prints = λ r. (text, p, ap (λ (k : ℕ). accepted (k ∷ [])) (w .ends ∙ zero-add (length text)), wrote-front w, (let e = w .ends in omega arith));
+        prints = λ r. (text, p, ap (λ (k : ℕ). accepted (k ∷ [])) l, leaves, omega arith);
       }
 
 pub runs-as : {sheet before after : List ℕ} {r : Ran} {h told : Header}

@@ -22,9 +22,9 @@ use Rattle.book.proofs.Changes.{standing-of}
 use Rattle.book.proofs.Reach.{opened-is}
 use Rattle.sheet.specs.declared.Header.{Header}
 use Rattle.sheet.specs.Entries.{partOf}
-use Rattle.words.specs.Words.{decimal}
-use Rattle.lines.specs.Text.{sheetLine}
-use Rattle.lines.specs.Lines.{LineAt}
+use Rattle.printed.specs.Words.{decimal}
+use Rattle.printed.specs.Text.{sheetLine}
+use Rattle.printed.specs.Lines.{LineAt}
 use Rattle.printed.specs.declared.Ran.{Ran}
 use Rattle.printed.specs.Runs.{Lines, Lines.start, Lines.more, Prints, room, runChecks, ranSays, Printed}
 

@@ -11,10 +11,9 @@ use Rattle.book.specs.declared.Kept.{Kept}
 use Rattle.book.specs.Entries.{Opens}
 use Rattle.sheet.specs.declared.Header.{Header}
 use Rattle.sheet.specs.Entries.{ReadsHeader, partOf}
-use Rattle.lines.specs.Lines.{LineAt}
+use Rattle.printed.specs.Lines.{LineAt}
 use Rattle.printed.specs.declared.Ran.{Ran}
-use Rattle.lines.specs.Text.{sheetLine, refusedSheet}
-use Rattle.words.specs.Wrote.{Wrote}
+use Rattle.printed.specs.Text.{sheetLine, refusedSheet}
 
 -- "starting from an empty book", "a line per action": the lines of a sheet's first actions, and the book after them. `starts-empty`
 -- says how it starts, `action-line-at` that the line of each action stands in its place, `line-for-each` that there are so many.
@@ -57,10 +56,3 @@ pub record Runs (sheet before : List ℕ) (answer : Ran) (after : List ℕ) : Ty
   pub header : Header
   pub reads : ReadsHeader sheet header
   pub runs : RunsBy sheet header before answer after
-
--- the lines of a sheet were written at a place
-pub record LinesWritten (sheet : List ℕ) (n count : ℕ) (before : List ℕ) (at : ℕ) (after : List ℕ) (next : ℕ) (b : Book) : Type 0 where
-  pub text : List ℕ
-  pub tells : Lines sheet n count text b
-  pub wrote : Wrote before at text after next
-  pub short : next ≤ at + 48 * count

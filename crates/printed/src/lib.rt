@@ -1,7 +1,5 @@
-// Document 01, 'The sheet and what is printed': running a sheet, from its bytes to the bytes printed.
-mod runs; // runs.rt: a whole sheet
-
-pub use runs::run;
+// Document 01, 'The sheet and what is printed': the definitions of what is printed, and what a run answers. There is no code here: words,
+// answers, lines and printer write it.
 use table::Refusal;
 
 // What a run answers: how many bytes it wrote.

@@ -15,10 +15,10 @@ use Rattle.actions.specs.declared.Action.{Action}
 use Rattle.sheet.specs.declared.Header.{Header}
 use Rattle.sheet.specs.Entries.{partOf}
 use Rattle.actions.proofs.Actions.{action-once}
-use Rattle.lines.specs.Text.{sheetLine}
-use Rattle.lines.specs.Lines.{LineOf, LineAt}
+use Rattle.printed.specs.Text.{sheetLine}
+use Rattle.printed.specs.Lines.{LineOf, LineAt}
 use Rattle.printed.specs.Runs.{Lines, Lines.start, Lines.more, Prints}
-use Rattle.lines.proofs.Once.{line-at-once}
+use Rattle.printed.proofs.LineOnce.{line-at-once}
 use Rattle.promises.specs.Sheets.{changesOf, Changes, Changes.none, Changes.more}
 
 -- a sheet holds one list of changes

@@ -4,7 +4,7 @@ use table::Refusal;
 ghost use mathlib.Core.Path.{_≡_};
 ghost use Prim.Native.Nat.{_+_, _≤_};
 ghost use lib.ListN.{length};
-ghost use Rattle.words.specs.Words.{decimal, bitsFrom, ending, refusal};
+ghost use Rattle.printed.specs.Words.{decimal, bitsFrom, ending, refusal};
 ghost use Rattle.words.specs.Wrote.{Wrote};
 
 pub fn word(out: &mut [u8], at: usize, text: &[u8]) -> usize

@@ -6,8 +6,8 @@ use borrow.Author.Needs.{needs}
 use borrow.Fn.Kinds.{In}
 use borrow.Fn.PlainCycle.{Measures, is, falls, and}
 use lib.ListN.{length}
-use Rattle.words.specs.Words.{decimal}
-use Rattle.words.proofs.Decimals.{decimal-one, decimal-more, length-more}
+use Rattle.printed.specs.Words.{decimal}
+use Rattle.printed.proofs.Decimals.{decimal-one, decimal-more, length-more}
 use Rattle.words.proofs.Writing.{wrote-more, wrote-byte}
 use Rattle.words.proofs.digits.Reads as digits
 use Rattle.words.proofs.digits.Kinds as digits-kinds

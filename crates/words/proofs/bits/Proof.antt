@@ -8,8 +8,8 @@ use borrow.Author.Needs.{needs}
 use lib.ListN.{getD, length, length-set}
 use lib.Seq.{paste, paste-zero, paste-suc}
 use Rattle.fabric.specs.Labels.{bit}
-use Rattle.words.specs.Words.{bitsFrom}
-use Rattle.words.proofs.Decimals.{length-bits, bits-at}
+use Rattle.printed.specs.Words.{bitsFrom}
+use Rattle.printed.proofs.Decimals.{length-bits, bits-at}
 use Rattle.words.proofs.Writing.{wrote-laid}
 use Rattle.words.proofs.bits.Statement.{statement}
 use Rattle.words.proofs.bits.Tie as tie

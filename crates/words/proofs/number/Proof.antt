@@ -1,7 +1,7 @@
 -- A number of 16 bits has at most five digits.
 use native.Mathlib.Omega.{arith}
 use borrow.Author.Needs.{needs}
-use Rattle.words.proofs.Decimals.{at-most-five}
+use Rattle.printed.proofs.Decimals.{at-most-five}
 use Rattle.words.proofs.number.Statement.{statement}
 use Rattle.words.proofs.number.Tie as tie
 

@@ -1,2 +1,0 @@
--- what an answer prints, as it is spelled
-pub mod Spelling

@@ -1,0 +1,79 @@
+-- The line of an action is that of its entry's answer, and a layout fault comes before anything that the entry would answer.
+use mathlib.Core.Path.{_≡_, refl, ap, _∙_}
+use mathlib.Core.List.{List, [], _∷_, _++_}
+use Prim.Native.Nat.{ℕ, _<_}
+use lib.ListN.{length, getD}
+use Rattle.table.specs.declared.Refusal.{Refusal}
+use Rattle.table.specs.Checks.{Given.here, Given.later}
+use Rattle.printed.specs.Words.{ascii, decimalIn, decimal, ending, FILE, WITHDRAW, ROUTE, ACTION}
+use Rattle.printed.proofs.WordsSpelled.{Within, line-feed-last, nine-are-words, decimal-is-a-word}
+use Rattle.printed.specs.Told.{told, foundTold}
+use Rattle.printed.proofs.AnswersSpelled.{told-in-words, found-in-words}
+use Rattle.book.specs.declared.Book.{Book}
+use Rattle.book.specs.declared.Kept.{Kept}
+use Rattle.book.specs.declared.Answer.{Answer}
+use Rattle.book.specs.Entries.{Files, Withdraws}
+use Rattle.book.proofs.Once.{files-once, withdraws-once}
+use Rattle.notices.specs.declared.Notice.{Notice}
+use Rattle.routes.specs.declared.Found.{Found}
+use Rattle.routes.specs.Routed.{Routes}
+use Rattle.routes.proofs.Entries.{route-once}
+use Rattle.actions.specs.declared.Action.{Action}
+use Rattle.actions.specs.Format.{IsAction, bytesOf}
+use Rattle.actions.specs.Entries.{ReadsAction}
+use Rattle.actions.proofs.Promises.{action-refuses}
+use Rattle.actions.proofs.Actions.{action-once}
+use Rattle.actions.proofs.Exactly.{two-exactly}
+use Rattle.printed.specs.Text.{fileLine, withdrawLine, routeLine}
+use Rattle.printed.specs.Lines.{LineOf, LineAt}
+
+-- what an action prints and hands on is what its entry answers
+module _ (n : ℕ) (b after : Book) (text : List ℕ) where
+  pub filing-line : (x : Notice) (r : Kept) → Files b x r → LineOf n b (Action.File x) text after
+      → (text ≡ ascii "FILE " ++ decimal (x .number) ++ ending (told (r .answer))) × (after ≡ r .book)
+  filing-line x r f l =
+      let e = files-once b x (l .0) r (l .1) f in
+      (l .2 ∙ ap (λ (k : Kept). fileLine (x .number) (k .answer)) e, l .3 ∙ ap (λ (k : Kept). k .book) e)
+
+  pub withdrawing-line : (k : ℕ) (r : Kept) → Withdraws b k r → LineOf n b (Action.Withdraw k) text after
+      → (text ≡ ascii "WITHDRAW " ++ decimal k ++ ending (told (r .answer))) × (after ≡ r .book)
+  withdrawing-line k r f l =
+      let e = withdraws-once b k (l .0) r (l .1) f in
+      (l .2 ∙ ap (λ (m : Kept). withdrawLine k (m .answer)) e, l .3 ∙ ap (λ (m : Kept). m .book) e)
+
+  pub routing-line : (s d : ℕ) (r : Found) → Routes b s d r → LineOf n b (Action.Route s d) text after
+      → (text ≡ ascii "ROUTE " ++ (decimal s ++ (ascii " " ++ (decimal d ++ ending (foundTold n r))))) × (after ≡ b)
+  routing-line s d r f l =
+      let e = route-once b s d (l .0) r (l .1) f in
+      (l .2 ∙ ap (routeLine n s d) e, l .3)
+
+  refused-line : (part : List ℕ) → ReadsAction part (Action.Refused Refusal.Layout) → LineAt n b part text after → (text ≡ ascii "ACTION REFUSED 2\n") × (after ≡ b)
+  unfolding decimalIn
+  refused-line part r l =
+      let e = action-once part (l .action) (Action.Refused Refusal.Layout) (l .reads) r in
+      let w : LineOf n b (Action.Refused Refusal.Layout) text after = rw e at (l .tells) in
+      w
+
+  -- "Check 2 comes before the entry's own.": over any book, ten bytes that no action has print this and leave the book
+  pub fault-first : (part : List ℕ) → length part ≡ 10 → ((i : ℕ) → getD part i 0 < 256) → ((a : Action) → IsAction a → bytesOf a ≡ part → ⊥)
+      → LineAt n b part text after → (text ≡ ascii "ACTION REFUSED 2\n") × (after ≡ b)
+  fault-first part ten bytes missing l = refused-line part (two-exactly part ten bytes .1 missing) l
+
+  -- so a filing of number 0 with a spare field set: 2, and not 3
+  pub fault-before-number-0 : LineAt n b (1 ∷ 0 ∷ 0 ∷ 1 ∷ 0 ∷ 0 ∷ 1 ∷ 0 ∷ 3 ∷ 4 ∷ []) text after → (text ≡ ascii "ACTION REFUSED 2\n") × (after ≡ b)
+  fault-before-number-0 l = refused-line (1 ∷ 0 ∷ 0 ∷ 1 ∷ 0 ∷ 0 ∷ 1 ∷ 0 ∷ 3 ∷ 4 ∷ []) (action-refuses (later refl (here refl refl))) l
+
+  -- "LF at each end", and nowhere else in a line
+  pub line-ends : (a : Action) → LineOf n b a text after → (before : List ℕ) × Within 32 126 before × (text ≡ before ++ ascii "\n")
+  line-ends (Action.File x) l =
+      let w = line-feed-last FILE (decimal (x .number) ∷ told (l .0 .answer)) (nine-are-words .1 .0) (decimal-is-a-word (x .number), told-in-words (l .0 .answer)) in
+      (w .0, w .1, l .2 ∙ w .2)
+  line-ends (Action.Withdraw k) l =
+      let w = line-feed-last WITHDRAW (decimal k ∷ told (l .0 .answer)) (nine-are-words .1 .1 .0) (decimal-is-a-word k, told-in-words (l .0 .answer)) in
+      (w .0, w .1, l .2 ∙ w .2)
+  line-ends (Action.Route s d) l =
+      let w = line-feed-last ROUTE (decimal s ∷ decimal d ∷ foundTold n (l .0)) (nine-are-words .1 .1 .1 .0) (decimal-is-a-word s, (decimal-is-a-word d, found-in-words n (l .0))) in
+      (w .0, w .1, l .2 ∙ w .2)
+  line-ends (Action.Refused why) l =
+      let w = line-feed-last ACTION (told (Answer.Refused why)) (nine-are-words .1 .1 .1 .1 .0) (told-in-words (Answer.Refused why)) in
+      (w .0, w .1, l .0 ∙ w .2)

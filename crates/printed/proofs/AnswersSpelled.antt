@@ -1,0 +1,37 @@
+-- The end of each answer's line, as 01 spells it.
+use mathlib.Core.Path.{_≡_, refl}
+use mathlib.Core.List.{_++_}
+use Prim.Native.Nat.{ℕ}
+use Rattle.table.specs.declared.Refusal.{Refusal}
+use Rattle.table.specs.Numbers.{numberOf}
+use Rattle.printed.specs.Words.{ascii, decimal, tagBits, ending}
+use Rattle.printed.proofs.WordsSpelled.{Words, nine-are-words, decimal-is-a-word, bits-are-a-word}
+use Rattle.book.specs.declared.Answer.{Answer}
+use Rattle.routes.specs.declared.Found.{Found}
+use Rattle.printed.specs.Told.{told, foundTold}
+
+-- "`OK`, or `REFUSED` and the table number"
+pub told-spelled :
+    (ending (told Answer.Done) ≡ ascii " OK\n")
+    × ((why : Refusal) → ending (told (Answer.Refused why)) ≡ ascii " REFUSED " ++ decimal (numberOf why) ++ ascii "\n")
+told-spelled = (refl, λ why. refl)
+
+-- "`TAG` with bits 0 to 2n-1 in that order, `NONE` with the stage, or `REFUSED` with the table number"
+pub found-spelled : (n : ℕ)
+    → ((tag : ℕ) → ending (foundTold n (Found.Tag tag)) ≡ ascii " TAG " ++ tagBits n tag ++ ascii "\n")
+    × ((stage : ℕ) → ending (foundTold n (Found.None stage)) ≡ ascii " NONE " ++ decimal stage ++ ascii "\n")
+    × ((why : Refusal) → ending (foundTold n (Found.Refused why)) ≡ ascii " REFUSED " ++ decimal (numberOf why) ++ ascii "\n")
+found-spelled n = ((λ tag. refl), (λ stage. refl), (λ why. refl))
+
+-- what an answer prints is words: no blank or LF is in any of them
+refused-words : (why : Refusal) → Words (told (Answer.Refused why))
+refused-words why = (nine-are-words .1 .1 .1 .1 .1 .1 .0, (decimal-is-a-word (numberOf why), tt))
+
+pub told-in-words : (answer : Answer) → Words (told answer)
+told-in-words Answer.Done = (nine-are-words .1 .1 .1 .1 .1 .0, tt)
+told-in-words (Answer.Refused why) = refused-words why
+
+pub found-in-words : (n : ℕ) (answer : Found) → Words (foundTold n answer)
+found-in-words n (Found.Tag tag) = (nine-are-words .1 .1 .1 .1 .1 .1 .1 .0, (bits-are-a-word n tag, tt))
+found-in-words n (Found.None stage) = (nine-are-words .1 .1 .1 .1 .1 .1 .1 .1 .0, (decimal-is-a-word stage, tt))
+found-in-words n (Found.Refused why) = refused-words why

@@ -1,0 +1,2 @@
+-- a text that was written at the front is a run's
+pub mod Written

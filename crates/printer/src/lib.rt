@@ -1,0 +1,80 @@
+// Document 01, 'The sheet and what is printed': running a sheet, from its bytes to the bytes printed.
+use book::Book;
+use lines::action_line;
+use printed::Ran;
+use sheet::Header;
+use table::Refusal;
+use words::number;
+use words::refusal_told;
+use words::word;
+ghost use Prim.Native.Nat.{ℕ, _+_, _*_, _≤_};
+ghost use mathlib.Core.List.{List};
+ghost use lib.ListN.{length};
+ghost use Rattle.printed.specs.Text.{sheetLine};
+ghost use Rattle.words.specs.Wrote.{Wrote};
+ghost use Rattle.printed.specs.Runs.{RunsBy, Runs};
+ghost use Rattle.printer.specs.Written.{LinesWritten};
+
+// Prints what running a sheet prints, at the front of the memory. It asks for 24 bytes and 48 for each action.
+pub fn run(sheet: &[u8], out: &mut [u8]) -> Ran
+    ensures { λ r. ⌜ Runs (now (sheet .entry)) (now (out .entry)) r (now (out .exit)) ⌝ }
+{
+    match sheet_reader::read_header(sheet) {
+        Header::Refused(why) => refused_sheet(why, out),
+        Header::Sheet { n, count } => whole_sheet(sheet, n, count, out),
+    }
+}
+
+// "or only `SHEET REFUSED k`"
+fn refused_sheet(why: Refusal, out: &mut [u8]) -> Ran
+    ensures { λ r. ⌜ ((sheet : List ℕ) → RunsBy sheet (Header.Refused why) (now (out .entry)) r (now (out .exit))) ⌝ }
+{
+    if out.len() < 24 {
+        return Ran::Refused(Refusal::Room);
+    }
+    let mid = word(out, 0, b"SHEET");
+    Ran::Printed(refusal_told(out, mid, why))
+}
+
+fn whole_sheet(sheet: &[u8], n: u8, count: u16, out: &mut [u8]) -> Ran
+    requires { ⌜ n ≤ 12 ⌝ }
+    ensures { λ r. ⌜ RunsBy (now (sheet .entry)) (Header.Sheet n count) (now (out .entry)) r (now (out .exit)) ⌝ }
+{
+    if out.len() < 24 + 48 * count as usize {
+        return Ran::Refused(Refusal::Room);
+    }
+    let at = sheet_line(n, count, out);
+    Ran::Printed(lines(sheet, n, count, out, at))
+}
+
+// "First line: `SHEET n count`"
+fn sheet_line(n: u8, count: u16, out: &mut [u8]) -> usize
+    requires { ⌜ 24 ≤ length (now out) ⌝ }
+    ensures { λ r. ⌜ (Wrote (now (out .entry)) 0 (sheetLine n count) (now (out .exit)) r) × (r ≤ 24) ⌝ }
+{
+    let first = word(out, 0, b"SHEET ");
+    let between = number(out, first, n as u16);
+    let second = word(out, between, b" ");
+    let end = number(out, second, count);
+    word(out, end, b"\n")
+}
+
+// "Then a line per action", starting from an empty book.
+fn lines(sheet: &[u8], n: u8, count: u16, out: &mut [u8], at: usize) -> usize
+    requires { ⌜ (n ≤ 12) × (at + 48 * count ≤ length (now out)) ⌝ }
+    ensures { λ r. ⌜ ((b : Book) × LinesWritten (now (sheet .entry)) n count (now (out .entry)) at (now (out .exit)) r b) ⌝ }
+{
+    let opened = Book::open(n);
+    let mut book = opened.book;
+    let mut next = at;
+    let mut k: usize = 0;
+    while k < count as usize {
+        let part = sheet_reader::action_part(sheet, k);
+        let told = action_line(n, book, part, out, next);
+        let after = told.book;
+        book = after;
+        next = told.at;
+        k += 1;
+    }
+    next
+}
