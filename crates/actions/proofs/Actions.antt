@@ -16,7 +16,7 @@ use Rattle.table.proofs.Numbers.{number-tells}
 use Rattle.table.proofs.Checks.{passed-accepts, refused-given, accepted-says, passed-nth, zero-one}
 use Rattle.notices.specs.declared.Target.{Target}
 use Rattle.notices.specs.declared.Target.the-variants.{Links, Switch, Pattern}
-use Rattle.notices.specs.Layout.{filingOf}
+use Rattle.actions.specs.Layout.{filingOf}
 use Rattle.actions.specs.declared.Action.{Action}
 use Rattle.actions.specs.declared.Fields.{Fields}
 use Rattle.actions.specs.Format.{IsAction, fieldBytes, fieldsOf, bytesOf, layoutFault}

@@ -9,7 +9,7 @@ use lib.Dec.{eqb}
 use lib.ListN.{length, drop, getD, drop-of-length-le}
 use lib.Seq.{drop-cons}
 use Rattle.table.proofs.Checks.{neither}
-use Rattle.notices.specs.Layout.{actionBytes}
+use Rattle.actions.specs.Layout.{actionBytes}
 use Rattle.actions.specs.declared.Fields.{Fields}
 use Rattle.actions.specs.Format.{fieldBytes, fieldsOf, someUsed, filingFault, withdrawingFault, routingFault, layoutFault}
 

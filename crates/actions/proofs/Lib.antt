@@ -1,3 +1,6 @@
+-- the ten bytes of a filing action, and the rows of a listing
+pub mod Laid
+pub mod Listings
 -- what the definitions say
 pub mod Meanings
 -- the format, read and written

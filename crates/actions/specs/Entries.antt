@@ -9,6 +9,7 @@ use Rattle.table.specs.Numbers.{numberOf}
 use Rattle.table.specs.Reply.{Reply, refused}
 use Rattle.table.specs.Checks.{Check, checked, _when_}
 use Rattle.actions.specs.declared.Action.{Action}
+use Rattle.actions.specs.Layout.{actionLength}
 use Rattle.actions.specs.Format.{fieldsOf, bytesOf, layoutFault}
 
 -- the number and values of each answer; the values of an action are the bytes of its fields: `says-exactly`, `action-numbered`
@@ -20,7 +21,7 @@ actionSays (Action.Refused why) = refused (numberOf why)
 
 -- "action reader (a part): 13, 2; otherwise the action with its fields.": `action-order`, `thirteen-exactly`, `two-exactly`, `action-exactly`
 abbrev pub actionChecks : List ℕ → List Check
-actionChecks part = (13 when not (eqb (length part) 10)) ∷ (2 when layoutFault (fieldsOf part)) ∷ []
+actionChecks part = (13 when not (eqb (length part) actionLength)) ∷ (2 when layoutFault (fieldsOf part)) ∷ []
 
 pub record ReadsAction (part : List ℕ) (answer : Action) : Type 0 where
   pub says : actionSays answer ≡ checked (actionChecks part) refused (Reply.accepted part)

@@ -4,7 +4,7 @@ use mathlib.Core.List.{List, [], _∷_}
 use Prim.Native.Nat.{ℕ, _+_, _*_}
 use lib.Dec.{eqb}
 use lib.ListN.{getD}
-use Rattle.notices.specs.Layout.{actionBytes, filing}
+use Rattle.actions.specs.Layout.{actionBytes, filing}
 use Rattle.actions.specs.declared.Fields.{Fields}
 use Rattle.actions.specs.declared.Action.{Action}
 

@@ -1,2 +1,4 @@
+pub mod Layout
+pub mod Rows
 pub mod Format
 pub mod Entries

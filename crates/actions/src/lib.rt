@@ -1,13 +1,12 @@
-// Document 01, 'The sheet and what is printed': an action's ten bytes, and the action reader.
-mod reader; // reader.rt: from ten bytes to the action
-
+// Document 01, 'The sheet and what is printed': an action, and the fields of its ten bytes. Its layout is defined in specs/; there is no code here.
 use notices::Notice;
-pub use reader::read_action;
 use table::Refusal;
-ghost use mathlib.Core.Path.{_≡_};
-ghost use Prim.Native.Nat.{_+_, _<_};
-ghost use lib.ListN.{length};
-ghost use Rattle.actions.specs.Format.{word};
+
+// "ten bytes an action"
+pub const ACTION_LENGTH: usize = 10;
+
+// The bytes of a sheet's header.
+pub const HEADER_LENGTH: usize = 8;
 
 // What the action reader answers.
 pub enum Action {
@@ -26,18 +25,4 @@ pub struct Fields {
     pub switch: u16,
     pub mask: u16,
     pub set: u8,
-}
-
-// The number of 16 bits at a place.
-pub fn word_at(bytes: &[u8], at: usize) -> u16
-    requires { ⌜ at + 1 < length (now bytes) ⌝ }
-    ensures { λ r. ⌜ r ≡ word (now (bytes .entry)) at ⌝ }
-{
-    wide(bytes[at]) * 256 + wide(bytes[at + 1])
-}
-
-fn wide(x: u8) -> u16
-    ensures { λ r. ⌜ (r ≡ x) × (r < 256) ⌝ }
-{
-    x as u16
 }

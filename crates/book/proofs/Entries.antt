@@ -27,10 +27,10 @@ use Rattle.book.specs.declared.Answer.{Answer}
 use Rattle.book.specs.declared.Link.{Link}
 use Rattle.book.specs.declared.Listing.{Listing}
 use Rattle.standing.specs.Rising.{stands, Filed}
-use Rattle.standing.specs.Rows.{rows}
+use Rattle.actions.specs.Rows.{rows}
 use Rattle.book.specs.Standing.{standing, unsound, Stopped, stopper, stopsOf}
 use Rattle.book.specs.Entries.{answerSays, linkSays, listingSays, HandsBack, openChecks, opened, Opens, fileChecks, Files, withdrawChecks, Withdraws, linkChecks, Tests, listingChecks, Lists}
-use Rattle.standing.proofs.Listings.{length-rows}
+use Rattle.actions.proofs.Listings.{length-rows}
 use Rattle.standing.proofs.Members.{stands-member, member-stands}
 use Rattle.book.proofs.Filings.{sound-if}
 use Rattle.book.proofs.Stoppers.{stopper-none, stopper-some}

@@ -7,13 +7,13 @@ use native.Mathlib.Omega.{arith}
 use lib.Dec.{eqb}
 use lib.ListN.{length, drop, getD, set, replicate, length-append, length-take, length-drop, take-append-drop}
 use lib.Seq.{paste, length-take-le, getD-take}
-use Rattle.standing.proofs.Placing.{insertAt, removeAt, place-le, place-past, place-stands, standing-place, without-at, insert-at}
+use Rattle.places.proofs.Placing.{insertAt, removeAt, place-le, place-past, place-stands, standing-place, without-at, insert-at}
 use Rattle.notices.specs.declared.Notice.{Notice}
 use Rattle.book.specs.declared.Book.{Book}
 use Rattle.standing.specs.Rising.{filler, stands, insert, without}
 use Rattle.book.specs.Standing.{standing, bookOf, Sound}
-use Rattle.standing.specs.Places.{placeOf}
-use Rattle.standing.proofs.Arrays.{opens-gap, closes-gap}
+use Rattle.places.specs.Places.{placeOf}
+use Rattle.places.proofs.Arrays.{opens-gap, closes-gap}
 
 -- a book from its parts
 abbrev pub made : ℕ → ℕ → List Notice → Book

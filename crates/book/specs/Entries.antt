@@ -18,7 +18,7 @@ use Rattle.book.specs.declared.Listing.{Listing}
 use Rattle.notices.specs.Targets.{outsideFabric, badField, tooWide}
 use Rattle.book.specs.Standing.{standing, bookOf, unsound, stopper}
 use Rattle.standing.specs.Rising.{stands, insert, without}
-use Rattle.standing.specs.Rows.{rows}
+use Rattle.actions.specs.Rows.{rows}
 
 -- The theorems named here stand in proofs/Entries.antt, unless another file is named. `answer-numbered`, `link-numbered` and `listing-numbered`: no
 -- answer has number 0.

@@ -1,4 +1,5 @@
 // Document 01, 'Notices': the book of notices, and its entries open, file, withdraw, link stopped or not, and listing.
+use actions::ACTION_LENGTH;
 use notices::Notice;
 use table::Refusal;
 ghost use mathlib.Core.Path.{_≡_};
@@ -8,7 +9,7 @@ ghost use Rattle.fabric.specs.Labels.{size};
 ghost use Rattle.book.specs.Standing.{standing, stopper, unsound, Sound};
 ghost use Rattle.book.specs.Entries.{Opens, Files, Withdraws, Tests, Lists};
 
-mod places; // places.rt: the notices in their places
+mod held; // held.rt: what stands in a book
 
 // The first `count` notices stand, by rising number; every place after them holds number 0 and the first target, all zero.
 pub struct Book {
@@ -53,10 +54,10 @@ pub fn unsound(book: Book) -> bool
         return true;
     }
     let notices = book.notices;
-    if standing::misfiled(book.n, notices, book.count) {
+    if places::misfiled(book.n, notices, book.count) {
         return true;
     }
-    standing::littered(notices, book.count)
+    places::littered(notices, book.count)
 }
 
 // The lowest number of a standing notice that names the link, or 0.
@@ -69,7 +70,7 @@ pub fn stopper(book: Book, stage: u8, switch: u16, code: u8) -> u16
     let mut i = 0;
     while i < count {
         let x = book.notices[i];
-        if notices::names(n, x, stage, switch, code) {
+        if targets::names(n, x, stage, switch, code) {
             return x.number;
         }
         i += 1;
@@ -102,9 +103,9 @@ impl Book {
         ensures { λ r. ⌜ Opens n r ⌝ }
     {
         if fabric::outside_sizes(n) {
-            return refused(places::empty(0), Refusal::Size);
+            return refused(held::empty(0), Refusal::Size);
         }
-        done(places::empty(n))
+        done(held::empty(n))
     }
 
     // "file: 16, 3, 4, 5, 6, 7, 8."
@@ -118,22 +119,22 @@ impl Book {
             return refused(self, Refusal::Zero);
         }
         let n = self.n;
-        if notices::outside_fabric(n, notice) {
+        if targets::outside_fabric(n, notice) {
             return refused(self, Refusal::Place);
         }
-        if notices::bad_field(n, notice) {
+        if targets::bad_field(n, notice) {
             return refused(self, Refusal::Field);
         }
-        if notices::too_wide(notice) {
+        if targets::too_wide(notice) {
             return refused(self, Refusal::Wide);
         }
-        if places::stands(self, notice.number) {
+        if held::stands(self, notice.number) {
             return refused(self, Refusal::Stands);
         }
         if 48 <= self.count {
             return refused(self, Refusal::Full);
         }
-        done(places::inserted(self, notice))
+        done(held::inserted(self, notice))
     }
 
     // "withdraw: 16, 3, 9."
@@ -146,10 +147,10 @@ impl Book {
         if number == 0 {
             return refused(self, Refusal::Zero);
         }
-        if !places::stands(self, number) {
+        if !held::stands(self, number) {
             return refused(self, Refusal::Absent);
         }
-        done(places::removed(self, number))
+        done(held::removed(self, number))
     }
 
     // "link stopped or not: 16, 4, 12."
@@ -180,11 +181,11 @@ impl Book {
             return Listing::Refused(Refusal::Book);
         }
         let count = self.count;
-        if memory.len() < 10 * count {
+        if memory.len() < ACTION_LENGTH * count {
             return Listing::Refused(Refusal::Room);
         }
         let notices = self.notices;
-        standing::laid(notices, count, memory);
+        places::laid(notices, count, memory);
         Listing::Listed(count)
     }
 }

@@ -12,7 +12,8 @@ use Rattle.packing.specs.Packed.{packed, Tells}
 use Rattle.packing.proofs.Unpacking.{accepted-unpacks, first-value-lowest}
 use Rattle.packing.proofs.Once.{tells-all}
 use Rattle.sheet.specs.declared.Header.{Header}
-use Rattle.sheet.specs.Format.{sizeIn, bytesBefore}
+use Rattle.actions.specs.Layout.{bytesBefore}
+use Rattle.sheet.specs.Format.{sizeIn}
 use Rattle.sheet.specs.Entries.{headerSays, headerChecks, ReadsHeader, thereChecks, startOf, partOf}
 use Rattle.sheet.proofs.Promises.{header-passed, header-fields}
 use Rattle.sheet.proofs.Sheets.{header-once}

@@ -2,6 +2,8 @@
 // number (`packed`): its low byte is the table's number, 0 where the call was accepted, and the bits from 8 on hold the value.
 mod numbers; // numbers.rt: an answer as one number
 
+use actions::ACTION_LENGTH;
+use actions::HEADER_LENGTH;
 use book::Book;
 use handed::after_all;
 use notices::Notice;
@@ -228,7 +230,7 @@ pub extern "C" fn tabashfar_action_part(sheet: &[u8], k: usize) -> u64
     ensures { λ r. ⌜ r ≡ length (partOf (now (sheet .entry)) k) + 256 * startOf (now (sheet .entry)) k ⌝ }
 {
     match sheet_reader::has_action(sheet, k) {
-        There::Yes => 10 + 256 * (8 + 10 * k as u64),
+        There::Yes => (ACTION_LENGTH + 256 * (HEADER_LENGTH + ACTION_LENGTH * k)) as u64,
         There::Refused(_) => 0,
     }
 }
@@ -238,7 +240,7 @@ pub extern "C" fn tabashfar_action_part(sheet: &[u8], k: usize) -> u64
 pub extern "C" fn tabashfar_read_action(part: &[u8]) -> u64
     ensures { λ r. ⌜ Tells (ReadsAction (now (part .entry))) kindSays r ⌝ }
 {
-    fields::kind(actions::read_action(part))
+    fields::kind(action_bytes::read_action(part))
 }
 
 // "otherwise the action with its fields": the seven of them at the front of the memory

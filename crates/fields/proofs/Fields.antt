@@ -8,7 +8,7 @@ use Rattle.table.specs.Reply.{Reply.accepted}
 use Rattle.table.specs.Checks.{numbers, _when_}
 use Rattle.notices.specs.declared.Target.{Target}
 use Rattle.notices.specs.declared.Target.the-variants.{Links, Switch, Pattern}
-use Rattle.notices.specs.Layout.{filingOf}
+use Rattle.actions.specs.Layout.{filingOf}
 use Rattle.actions.specs.declared.Action.{Action}
 use Rattle.actions.specs.Format.{IsAction, fieldsOf, bytesOf}
 use Rattle.actions.specs.Entries.{ReadsAction}

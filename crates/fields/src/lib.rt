@@ -7,6 +7,7 @@ ghost use Prim.Native.Nat.{_*_, _≤_};
 ghost use mathlib.Core.List.{_++_};
 ghost use lib.ListN.{length, drop};
 ghost use Rattle.packing.specs.Packed.{packed};
+ghost use Rattle.actions.specs.Layout.{actionLength};
 ghost use Rattle.actions.specs.Format.{fieldsOf};
 ghost use Rattle.fields.specs.Fields.{kindSays, inOrder, ReadsFields};
 ghost use Rattle.fields.specs.Written.{FieldsWritten};
@@ -30,7 +31,7 @@ pub fn kind(action: Action) -> u64
 pub fn read_fields(part: &[u8], memory: &mut [u16]) -> u64
     ensures { λ r. ⌜ ReadsFields (now (part .entry)) (now (memory .entry)) (now (memory .exit)) r ⌝ }
 {
-    match actions::read_action(part) {
+    match action_bytes::read_action(part) {
         Action::File(_) => written(part, memory),
         Action::Withdraw(_) => written(part, memory),
         Action::Route {
@@ -43,7 +44,7 @@ pub fn read_fields(part: &[u8], memory: &mut [u16]) -> u64
 
 // The fields of a part that holds an action.
 fn written(part: &[u8], memory: &mut [u16]) -> u64
-    requires { ⌜ length (now part) ≡ 10 ⌝ }
+    requires { ⌜ length (now part) ≡ actionLength ⌝ }
     ensures { λ r. ⌜ FieldsWritten (now (part .entry)) (now (memory .entry)) (now (memory .exit)) r ⌝ }
 {
     if memory.len() < 7 {
@@ -55,15 +56,15 @@ fn written(part: &[u8], memory: &mut [u16]) -> u64
 
 // The seven fields, in 01's order.
 fn write(part: &[u8], memory: &mut [u16])
-    requires { ⌜ (length (now part) ≡ 10) × (7 ≤ length (now memory)) ⌝ }
+    requires { ⌜ (length (now part) ≡ actionLength) × (7 ≤ length (now memory)) ⌝ }
     ensures { λ _. ⌜ now (memory .exit) ≡ inOrder (fieldsOf (now (part .entry))) ++ drop 7 (now (memory .entry)) ⌝ }
 {
     memory[0] = wide(part[0]);
-    memory[1] = actions::word_at(part, 1);
+    memory[1] = action_bytes::word_at(part, 1);
     memory[2] = wide(part[3]);
     memory[3] = wide(part[4]);
-    memory[4] = actions::word_at(part, 5);
-    memory[5] = actions::word_at(part, 7);
+    memory[4] = action_bytes::word_at(part, 5);
+    memory[5] = action_bytes::word_at(part, 7);
     memory[6] = wide(part[9]);
 }
 

@@ -12,7 +12,7 @@ pub fn after_all(sheet: &[u8], n: u8, count: u16) -> Book
     let mut k: usize = 0;
     while k < count as usize {
         let part = sheet_reader::action_part(sheet, k);
-        let action = actions::read_action(part);
+        let action = action_bytes::read_action(part);
         book = after_one(book, action);
         k += 1;
     }

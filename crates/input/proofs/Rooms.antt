@@ -14,7 +14,8 @@ use Rattle.table.specs.Checks.{Check, checked, _when_, _below_, Passed.none, Pa
 use Rattle.table.proofs.Checks.{passed-nth, neither, neither-of, one-of, other-of, unequal, equal}
 use Rattle.fabric.specs.Labels.{outsideSizes}
 use Rattle.sheet.specs.declared.Header.{Header}
-use Rattle.sheet.specs.Format.{headerBytes, sizeIn, countIn, bytesBefore}
+use Rattle.actions.specs.Layout.{bytesBefore}
+use Rattle.sheet.specs.Format.{headerBytes, sizeIn, countIn}
 use Rattle.sheet.specs.Entries.{headerSays, wrongMark, wrongLength, headerChecks, ReadsHeader}
 use Rattle.sheet.proofs.Promises.{header-accepts, header-passed, header-fields}
 use Rattle.sheet.proofs.Sheets.{header-read}

@@ -1,7 +1,7 @@
 -- Document 01, 'The sheet and what is printed': how much memory the program needs for its input and for what it prints.
 use Prim.Native.Nat.{ℕ, _+_}
 use Rattle.sheet.specs.declared.Header.{Header}
-use Rattle.sheet.specs.Format.{bytesBefore}
+use Rattle.actions.specs.Layout.{bytesBefore}
 use Rattle.printed.specs.Runs.{room}
 
 -- 15: "action count above 4,096, or wrong sheet length". `longest-is-accepted` and `none-is-longer` say that this is the longest sheet.

@@ -1,4 +1,6 @@
 // Document 01, 'The sheet and what is printed': from what was read on standard input to what is written on standard output.
+use actions::ACTION_LENGTH;
+use actions::HEADER_LENGTH;
 use printed::Ran;
 ghost use Prim.Native.Nat.{_≤_};
 ghost use lib.ListN.{length};
@@ -6,7 +8,7 @@ ghost use Rattle.input.specs.Rooms.{inputRoom, textRoom};
 ghost use Rattle.input.specs.Answers.{Within, Answers, Writes};
 
 // Memory for the input: the longest sheet that the header accepts, 4,096 actions of ten bytes, and one byte more.
-pub const INPUT_ROOM: usize = 8 + 10 * 4096 + 1;
+pub const INPUT_ROOM: usize = HEADER_LENGTH + ACTION_LENGTH * 4096 + 1;
 
 // Memory for the lines of the longest sheet.
 pub const TEXT_ROOM: usize = 24 + 48 * 4096;

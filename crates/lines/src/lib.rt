@@ -24,7 +24,7 @@ pub fn action_line(n: u8, book: Book, part: &[u8], out: &mut [u8], at: usize) ->
     requires { ⌜ (n ≤ 12) × (at + 48 ≤ length (now out)) ⌝ }
     ensures { λ r. ⌜ LineAtWritten n book (now (part .entry)) (now (out .entry)) at (now (out .exit)) r ⌝ }
 {
-    match actions::read_action(part) {
+    match action_bytes::read_action(part) {
         Action::File(notice) => file_line(book, notice, out, at),
         Action::Withdraw(k) => withdraw_line(book, k, out, at),
         Action::Route {

@@ -13,7 +13,8 @@ use Rattle.table.specs.Reply.{Reply.accepted, refused}
 use Rattle.table.specs.Checks.{Given, Passed, Passed.none, Passed.passes, _below_}
 use Rattle.table.proofs.Checks.{given-or-passed, given-once, not-given-and-passed, passed-nth, neither, zero-one}
 use Rattle.sheet.specs.declared.Header.{Header}
-use Rattle.sheet.specs.Format.{sizeIn, countIn, bytesBefore}
+use Rattle.actions.specs.Layout.{bytesBefore}
+use Rattle.sheet.specs.Format.{sizeIn, countIn}
 use Rattle.sheet.specs.Entries.{headerChecks, ReadsHeader}
 use Rattle.sheet.proofs.Promises.{header-passed, header-fields}
 use Rattle.printed.specs.declared.Ran.{Ran}

@@ -19,7 +19,7 @@ use Rattle.notices.specs.declared.Target.{Target}
 use Rattle.notices.specs.declared.Target.the-variants.{Links, Switch, Pattern}
 use Rattle.notices.specs.Targets.{names}
 use Rattle.book.specs.Standing.{stopper}
-use Rattle.standing.proofs.Arrays.{next-of}
+use Rattle.places.proofs.Arrays.{next-of}
 use Rattle.frontier.specs.declared.Stops.{Stops}
 use Rattle.paths.specs.Clear.{Rule}
 use Rattle.frontier.specs.Frontier.{high, low, stopsFrom}

@@ -10,7 +10,7 @@ use Rattle.fabric.specs.Labels.{size, outsideSizes}
 use Rattle.book.specs.declared.Book.{Book}
 use Rattle.book.specs.Standing.{standing, unused, unsound, stopsOf}
 use Rattle.standing.specs.Rising.{misfiled, littered}
-use Rattle.standing.proofs.Arrays.{none-left}
+use Rattle.places.proofs.Arrays.{none-left}
 use Rattle.routes.specs.declared.Found.{Found}
 use Rattle.router.proofs.Filing.{last-true}
 use Rattle.routes.specs.Routed.{Routed, Routes}

@@ -39,7 +39,7 @@ pub fn route(book: Book, source: u16, destination: u16) -> Found
     }
     if book.count < 48 {
         let notices = book.notices;
-        if standing::littered(notices, book.count) {
+        if places::littered(notices, book.count) {
             return Found::Refused(Refusal::Book);
         }
     }
@@ -105,5 +105,5 @@ fn misplaced(n: u8, x: Notice, next: u32) -> bool
     if next <= x.number as u32 {
         return true;
     }
-    notices::unfit(n, x)
+    targets::unfit(n, x)
 }

@@ -143,7 +143,7 @@ fn marked(n: u8, x: Notice, i: u8, j: u16, code: u8, old: u16) -> u16
     requires { ⌜ (n ≤ 12) × (i < n) × (j < size n) × (code < 3) ⌝ }
     ensures { λ r. ⌜ r ≡ mark n x i j code old ⌝ }
 {
-    if notices::names(n, x, i, j, code) {
+    if targets::names(n, x, i, j, code) {
         return x.number;
     }
     old

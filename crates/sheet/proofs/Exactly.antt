@@ -16,7 +16,8 @@ use Rattle.table.proofs.Checks.{passed-accepts, accepted-passed, refused-given,
 use Rattle.fabric.specs.Labels.{outsideSizes}
 use Rattle.sheet.specs.declared.Header.{Header}
 use Rattle.sheet.specs.declared.There.{There}
-use Rattle.sheet.specs.Format.{headerBytes, sizeIn, countIn, bytesBefore}
+use Rattle.actions.specs.Layout.{bytesBefore}
+use Rattle.sheet.specs.Format.{headerBytes, sizeIn, countIn}
 use Rattle.sheet.specs.Entries.{headerSays, thereSays, wrongMark, wrongLength, headerChecks, thereChecks, ReadsHeader, HasAction, startOf, partOf}
 use Rattle.sheet.proofs.Meanings.{length-exactly}
 use Rattle.sheet.proofs.Promises.{header-accepts, there-passed, there-yes, start-there, part-nowhere, start-nowhere}

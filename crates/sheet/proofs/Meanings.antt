@@ -11,9 +11,10 @@ use lib.ListN.{length, getD}
 use Rattle.table.specs.Reply.{Reply}
 use Rattle.table.specs.Checks.{numbers, _when_, _below_}
 use Rattle.table.proofs.Checks.{neither, neither-of, equal}
+use Rattle.actions.specs.Layout.{headerLength, bytesBefore}
 use Rattle.sheet.specs.declared.Header.{Header}
 use Rattle.sheet.specs.declared.There.{There}
-use Rattle.sheet.specs.Format.{headerBytes, countIn, bytesBefore}
+use Rattle.sheet.specs.Format.{headerBytes, countIn}
 use Rattle.sheet.specs.Entries.{headerSays, thereSays, wrongLength, headerChecks, thereChecks}
 
 -- "Header: the bytes `FSH`, version 1 (16 bits), n (8), action count (16).", of 01's example: n = 3, eleven actions; and a count of two bytes
@@ -21,6 +22,9 @@ pub header-spelled :
     (headerBytes 3 11 ≡ code "F" ∷ code "S" ∷ code "H" ∷ 0 ∷ 1 ∷ 3 ∷ 0 ∷ 11 ∷ [])
     × (headerBytes 12 258 ≡ code "F" ∷ code "S" ∷ code "H" ∷ 0 ∷ 1 ∷ 12 ∷ 1 ∷ 2 ∷ [])
 header-spelled = (refl, refl)
+
+pub header-length : (n count : ℕ) → length (headerBytes n count) ≡ headerLength
+header-length n count = refl
 
 -- "sheet header: 14, 1, 15", and then "k not below the count gives 13"
 pub header-order : (sheet : List ℕ) → numbers (headerChecks sheet) ≡ 14 ∷ 1 ∷ 15 ∷ []

@@ -12,7 +12,8 @@ use Rattle.table.specs.Checks.{_when_, _notBelow_, Given, Given.here, Passed, P
 use Rattle.table.proofs.Checks.{given-refuses, passed-accepts, accepted-passed, refused-given, accepted-says, given-before, given-after, passed-both, passed-nth}
 use Rattle.sheet.specs.declared.Header.{Header}
 use Rattle.sheet.specs.declared.There.{There}
-use Rattle.sheet.specs.Format.{sizeIn, countIn, bytesBefore}
+use Rattle.actions.specs.Layout.{bytesBefore}
+use Rattle.sheet.specs.Format.{sizeIn, countIn}
 use Rattle.sheet.specs.Entries.{headerChecks, ReadsHeader, thereChecks, HasAction, startOf, partOf}
 use Rattle.sheet.proofs.Meanings.{length-exactly}
 

@@ -15,7 +15,8 @@ use Rattle.table.proofs.Checks.{passed-accepts, neither, zero-one}
 use Rattle.sheet.specs.declared.Header.{Header}
 use Rattle.sheet.specs.declared.There.{There}
 use Rattle.actions.specs.Format.{word}
-use Rattle.sheet.specs.Format.{headerBytes, sizeIn, countIn, bytesBefore}
+use Rattle.actions.specs.Layout.{bytesBefore}
+use Rattle.sheet.specs.Format.{headerBytes, sizeIn, countIn}
 use Rattle.sheet.specs.Entries.{headerSays, thereSays, wrongMark, ReadsHeader, HasAction, startOf, partOf, thereChecks}
 use Rattle.actions.proofs.Layouts.{word-read, high-written, low-written, spells}
 use Rattle.sheet.proofs.Promises.{there-fits, there-passed}

@@ -12,8 +12,9 @@ use Rattle.table.specs.Checks.{Check, checked, _when_, _below_, _notBelow_}
 use Rattle.fabric.specs.Labels.{outsideSizes}
 use Rattle.sheet.specs.declared.Header.{Header}
 use Rattle.sheet.specs.declared.There.{There}
+use Rattle.actions.specs.Layout.{actionLength, headerLength, bytesBefore}
 use Rattle.actions.specs.Format.{word}
-use Rattle.sheet.specs.Format.{sizeIn, countIn, bytesBefore}
+use Rattle.sheet.specs.Format.{sizeIn, countIn}
 
 -- the number and values of each answer: `header-exactly`, `there-exactly`; `header-numbered`, `there-numbered`
 abbrev pub headerSays : Header → Reply
@@ -27,7 +28,7 @@ thereSays (There.Refused why) = refused (numberOf why)
 -- 14: "sheet under 8 bytes, wrong mark or version": `fourteen-exactly` says that it is where no header stands at the front
 abbrev pub wrongMark : List ℕ → Bool
 wrongMark sheet =
-    length sheet below 8
+    length sheet below headerLength
     || not (eqb (getD sheet 0 0) 70)
     || not (eqb (getD sheet 1 0) 83)
     || not (eqb (getD sheet 2 0) 72)
@@ -60,4 +61,4 @@ abbrev pub startOf : List ℕ → ℕ → ℕ
 startOf sheet k = checked (thereChecks sheet k) (λ j. 0) (bytesBefore k)
 
 abbrev pub partOf : List ℕ → ℕ → List ℕ
-partOf sheet k = checked (thereChecks sheet k) (λ j. []) (take 10 (drop (bytesBefore k) sheet))
+partOf sheet k = checked (thereChecks sheet k) (λ j. []) (take actionLength (drop (bytesBefore k) sheet))

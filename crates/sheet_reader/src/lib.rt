@@ -1,4 +1,6 @@
 // Document 01, 'The sheet and what is printed': a sheet's header, and the parts of a sheet that are its actions.
+use actions::ACTION_LENGTH;
+use actions::HEADER_LENGTH;
 use sheet::Header;
 use sheet::There;
 use table::Refusal;
@@ -6,13 +8,14 @@ ghost use mathlib.Core.Path.{_≡_};
 ghost use mathlib.Core.Bool.{false};
 ghost use Prim.Native.Nat.{_+_, _≤_};
 ghost use lib.ListN.{length};
+ghost use Rattle.actions.specs.Layout.{headerLength};
 ghost use Rattle.sheet.specs.Entries.{wrongMark, wrongLength, ReadsHeader, HasAction, startOf, partOf};
 
 // 14
 fn wrong_mark(sheet: &[u8]) -> bool
-    ensures { λ r. ⌜ (r ≡ wrongMark (now (sheet .entry))) × (r ≡ false → 8 ≤ length (now (sheet .entry))) ⌝ }
+    ensures { λ r. ⌜ (r ≡ wrongMark (now (sheet .entry))) × (r ≡ false → headerLength ≤ length (now (sheet .entry))) ⌝ }
 {
-    if sheet.len() < 8 {
+    if sheet.len() < HEADER_LENGTH {
         return true;
     }
     if sheet[0] != b'F' {
@@ -24,19 +27,19 @@ fn wrong_mark(sheet: &[u8]) -> bool
     if sheet[2] != b'H' {
         return true;
     }
-    actions::word_at(sheet, 3) != 1
+    action_bytes::word_at(sheet, 3) != 1
 }
 
 // 15
 fn wrong_length(sheet: &[u8]) -> bool
-    requires { ⌜ 8 ≤ length (now sheet) ⌝ }
+    requires { ⌜ headerLength ≤ length (now sheet) ⌝ }
     ensures { λ r. ⌜ r ≡ wrongLength (now (sheet .entry)) ⌝ }
 {
-    let count = actions::word_at(sheet, 6);
+    let count = action_bytes::word_at(sheet, 6);
     if 4096 < count {
         return true;
     }
-    sheet.len() != 8 + 10 * count as usize
+    sheet.len() != HEADER_LENGTH + ACTION_LENGTH * count as usize
 }
 
 // "sheet header: 14, 1, 15; otherwise it answers n and the count."
@@ -55,7 +58,7 @@ pub fn read_header(sheet: &[u8]) -> Header
     }
     Header::Sheet {
         n,
-        count: actions::word_at(sheet, 6),
+        count: action_bytes::word_at(sheet, 6),
     }
 }
 
@@ -81,8 +84,8 @@ pub fn action_part<'a>(sheet: &'a [u8], k: usize) -> &'a [u8]
 {
     match has_action(sheet, k) {
         There::Yes => {
-            let start = 8 + 10 * k;
-            let end = start + 10;
+            let start = HEADER_LENGTH + ACTION_LENGTH * k;
+            let end = start + ACTION_LENGTH;
             &sheet[start..end]
         }
         There::Refused(_) => &sheet[0..0],

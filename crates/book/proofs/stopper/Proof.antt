@@ -6,7 +6,7 @@ use borrow.Author.Needs.{needs}
 use lib.ListN.{length, take, drop}
 use Rattle.standing.specs.Rising.{filler}
 use Rattle.book.specs.Standing.{stopper}
-use Rattle.standing.proofs.Arrays.{length-mapped, next-of, none-left-of}
+use Rattle.places.proofs.Arrays.{length-mapped, next-of, none-left-of}
 use Rattle.book.proofs.stopper.Statement.{statement}
 use Rattle.book.proofs.stopper.Tie as tie
 

@@ -6,7 +6,7 @@ use borrow.Author.Tests.{lt-ltb, le-ltb}
 use borrow.Author.Needs.{needs}
 use lib.ListN.{length}
 use Rattle.book.specs.Standing.{unsound}
-use Rattle.standing.proofs.Arrays.{length-mapped}
+use Rattle.places.proofs.Arrays.{length-mapped}
 use Rattle.book.proofs.Filings.{sound-if}
 use Rattle.book.proofs.unsound.Statement.{statement}
 use Rattle.book.proofs.unsound.Tie as tie

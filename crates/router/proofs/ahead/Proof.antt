@@ -11,7 +11,7 @@ use Rattle.table.proofs.Checks.{neither}
 use Rattle.notices.specs.declared.Notice.{Notice}
 use Rattle.standing.specs.Rising.{filler, misfiled}
 use Rattle.book.specs.Standing.{stopper, stopsOf}
-use Rattle.standing.proofs.Arrays.{length-mapped, none-left-of}
+use Rattle.places.proofs.Arrays.{length-mapped, none-left-of}
 use Rattle.frontier.specs.Frontier.{high, low}
 use Rattle.frontier.proofs.Pivots.{high-lt}
 use Rattle.router.specs.Marks.{Highs, Lows, tellsOf, marksAt}

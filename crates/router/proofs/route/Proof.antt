@@ -5,7 +5,7 @@ use native.Mathlib.Omega.{arith}
 use borrow.Author.Tests.{lt-ltb, le-ltb}
 use lib.ListN.{length}
 use Rattle.table.proofs.Checks.{one-of, other-of, neither-of}
-use Rattle.standing.proofs.Arrays.{length-mapped}
+use Rattle.places.proofs.Arrays.{length-mapped}
 use Rattle.router.proofs.Promises.{refused-size, refused-count, refused-litter, refused-label, pass-decides, full-clean}
 use borrow.Author.Needs.{needs}
 use Rattle.router.proofs.route.Statement.{statement}

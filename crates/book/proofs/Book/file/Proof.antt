@@ -9,7 +9,7 @@ use Rattle.table.specs.Checks.{Passed, Passed.none, Passed.passes}
 use Rattle.table.proofs.Checks.{refusing, by-test}
 use Rattle.book.specs.Entries.{fileChecks}
 use Rattle.book.proofs.Answers.{hands-back-done-as, hands-back-refused, full, not-full}
-use Rattle.standing.proofs.Arrays.{length-mapped}
+use Rattle.places.proofs.Arrays.{length-mapped}
 use Rattle.book.proofs.Book.file.Statement.{statement}
 use Rattle.book.proofs.Book.file.Tie as tie
 

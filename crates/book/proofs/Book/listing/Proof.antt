@@ -10,12 +10,12 @@ use Rattle.table.specs.Reply.{refused}
 use Rattle.table.specs.Checks.{Given, Passed, Given.here, Given.later, Passed.none, Passed.passes}
 use Rattle.table.proofs.Checks.{given-refuses, passed-accepts}
 use Rattle.book.specs.Standing.{standing}
-use Rattle.standing.specs.Rows.{rows}
+use Rattle.actions.specs.Rows.{rows}
 use Rattle.book.specs.declared.Listing.{Listing}
 use Rattle.book.specs.Entries.{listingSays, listingChecks}
-use Rattle.standing.proofs.Arrays.{length-mapped}
+use Rattle.places.proofs.Arrays.{length-mapped}
 use Rattle.book.proofs.Placing.{length-standing}
-use Rattle.standing.proofs.Listings.{length-rows}
+use Rattle.actions.proofs.Listings.{length-rows}
 use Rattle.book.proofs.Book.listing.Statement.{statement}
 use Rattle.book.proofs.Book.listing.Tie as tie
 

@@ -7,9 +7,9 @@ use lib.ListN.{length}
 use Rattle.table.proofs.Checks.{refusing, accepting}
 use Rattle.book.proofs.Answers.{hands-back-done-as, turned, hands-back-refused}
 use Rattle.book.specs.Standing.{standing}
-use Rattle.standing.proofs.Arrays.{length-mapped}
+use Rattle.places.proofs.Arrays.{length-mapped}
 use Rattle.book.proofs.Placing.{length-standing}
-use Rattle.standing.proofs.Placing.{standing-place}
+use Rattle.places.proofs.Placing.{standing-place}
 use Rattle.book.proofs.Book.withdraw.Statement.{statement}
 use Rattle.book.proofs.Book.withdraw.Tie as tie
 

@@ -1,0 +1,87 @@
+-- The place of a number among standing notices: inserting there is `insert`, removing there is `without`, and a number stands
+-- exactly where the notice at its place has it.
+use mathlib.Core.Path.{_≡_, refl, sym, ap, _∙_}
+use mathlib.Core.Bool.{Bool, true, false, cond, true≢false, or-false}
+use mathlib.Core.List.{List, [], _∷_, _++_}
+use Prim.Native.Nat.{ℕ, suc, _+_, _-_, _≤_, _<_, zero-le, suc-le-suc}
+use native.Mathlib.Decide.{ℕ-discrete, decLe}
+use native.Mathlib.Omega.{arith}
+use borrow.Author.Tests.{eq-eqb, ne-eqb, le-leb, lt-leb, lt-ltb, le-ltb}
+use lib.Dec.{eqb, leb}
+use lib.ListN.{length, take, drop, getD}
+use Rattle.notices.specs.declared.Notice.{Notice}
+use Rattle.standing.specs.Rising.{stands, insert, without, Filed}
+use Rattle.places.specs.Places.{placeOf}
+use Rattle.standing.proofs.Filings.{above-stands-not}
+
+abbrev pub insertAt : ℕ → Notice → List Notice → List Notice
+insertAt p x l = take p l ++ x ∷ drop p l
+
+abbrev pub removeAt : ℕ → List Notice → List Notice
+removeAt p l = take p l ++ drop (suc p) l
+
+module _ (k : ℕ) where
+  pub place-le : (l : List Notice) → placeOf k l ≤ length l
+  unfolding placeOf
+  place-le [] = zero-le
+  place-le (y ∷ ys) = least (leb k (y .number)) (placeOf k ys) (length ys) (place-le ys)
+    where
+      least : (b : Bool) (m n : ℕ) → m ≤ n → cond b 0 (suc m) ≤ suc n
+      least true m n h = zero-le
+      least false m n h = suc-le-suc h
+
+  pub place-past : (l : List Notice) → length l ≤ placeOf k l → stands k l ≡ false
+  unfolding placeOf stands
+  place-past [] h = refl
+  place-past (y ∷ ys) h = go (decLe k (y .number)) (place-past ys)
+    where
+      go : Dec (k ≤ y .number) → (length ys ≤ placeOf k ys → stands k ys ≡ false) → stands k (y ∷ ys) ≡ false
+      go (yes t) ih = let g : suc (length ys) ≤ 0 = rw (le-leb k (y .number) t) at h in absurd (omega arith)
+      go (no t) ih =
+          let g : suc (length ys) ≤ suc (placeOf k ys) = rw (lt-leb k (y .number) (omega arith)) at h in
+          rw (ne-eqb (y .number) k (λ e. t (omega arith))) (ih (omega arith))
+
+  module _ (n : ℕ) (d : Notice) where
+    pub place-stands : (m : ℕ) (l : List Notice) → Filed n m l → placeOf k l < length l → stands k l ≡ eqb (getD l (placeOf k l) d .number) k
+    unfolding placeOf stands Filed
+    place-stands m [] f h = absurd (omega arith)
+    place-stands m (y ∷ ys) f h = go (decLe k (y .number)) (place-stands (y .number) ys (f .2))
+      where
+        go : Dec (k ≤ y .number) → (placeOf k ys < length ys → stands k ys ≡ eqb (getD ys (placeOf k ys) d .number) k)
+            → stands k (y ∷ ys) ≡ eqb (getD (y ∷ ys) (placeOf k (y ∷ ys)) d .number) k
+        go (yes t) ih = rw (le-leb k (y .number) t, above-stands-not n (y .number) k ys (f .2) t) (or-false (eqb (y .number) k))
+        go (no t) ih =
+            let b = lt-leb k (y .number) (omega arith) in
+            let g : suc (placeOf k ys) < suc (length ys) = rw b at h in
+            rw (b, ne-eqb (y .number) k (λ e. t (omega arith))) (ih (omega arith))
+
+  pub standing-place : (l : List Notice) → stands k l ≡ true → placeOf k l < length l
+  standing-place l s = go (decLe (length l) (placeOf k l))
+    where
+      go : Dec (length l ≤ placeOf k l) → placeOf k l < length l
+      go (yes h) = absurd (true≢false (sym s ∙ place-past l h))
+      go (no h) = omega arith
+
+  pub without-at : (n m : ℕ) (l : List Notice) → Filed n m l → stands k l ≡ true → without k l ≡ removeAt (placeOf k l) l
+  unfolding placeOf stands without Filed
+  without-at n m [] f s = refl
+  without-at n m (y ∷ ys) f s = go (ℕ-discrete (y .number) k) (decLe k (y .number)) (without-at n (y .number) ys (f .2))
+    where
+      go : Dec (y .number ≡ k) → Dec (k ≤ y .number) → (stands k ys ≡ true → without k ys ≡ removeAt (placeOf k ys) ys)
+          → without k (y ∷ ys) ≡ removeAt (placeOf k (y ∷ ys)) (y ∷ ys)
+      go (yes e) t ih = rw (eq-eqb (y .number) k e, le-leb k (y .number) (omega arith))
+      go (no e) (yes t) ih =
+          let z : stands k ys ≡ true = rw (ne-eqb (y .number) k e) at s in
+          absurd (true≢false (sym z ∙ above-stands-not n (y .number) k ys (f .2) t))
+      go (no e) (no t) ih =
+          let z : stands k ys ≡ true = rw (ne-eqb (y .number) k e) at s in
+          rw (ne-eqb (y .number) k e, lt-leb k (y .number) (omega arith)) (ap (λ (l : List Notice). y ∷ l) (ih z))
+
+pub insert-at : (x : Notice) (l : List Notice) → insert x l ≡ insertAt (placeOf (x .number) l) x l
+unfolding placeOf insert
+insert-at x [] = refl
+insert-at x (y ∷ ys) = go (decLe (x .number) (y .number)) (insert-at x ys)
+  where
+    go : Dec (x .number ≤ y .number) → insert x ys ≡ insertAt (placeOf (x .number) ys) x ys → insert x (y ∷ ys) ≡ insertAt (placeOf (x .number) (y ∷ ys)) x (y ∷ ys)
+    go (yes t) ih = rw (le-leb (x .number) (y .number) t, le-ltb (y .number) (x .number) t)
+    go (no t) ih = rw (lt-leb (x .number) (y .number) (omega arith), lt-ltb (y .number) (x .number) (omega arith)) (ap (λ (l : List Notice). y ∷ l) ih)

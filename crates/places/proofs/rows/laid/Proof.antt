@@ -1,0 +1,81 @@
+-- After i turns the rows of the first i notices lie at the front and the rest is as it was: `one-row-more`.
+use mathlib.Core.Path.{_≡_, refl, _∙_}
+use mathlib.Core.List.{_++_}
+use Prim.Native.Nat.{_≤_, _-_, _*_}
+use native.Mathlib.Omega.{arith}
+use borrow.Author.Needs.{needs}
+use lib.ListN.{length, take, drop}
+use Rattle.standing.specs.Rising.{filler}
+use Rattle.actions.specs.Rows.{rows}
+use Rattle.actions.proofs.Listings.{one-row-more}
+use Rattle.places.proofs.rows.laid.Statement.{statement}
+use Rattle.places.proofs.rows.laid.Tie as tie
+
+abbrev Inv-loop : tie.InvT-loop
+Inv-loop count memory₀ notices i₀ memory i =
+    (i ≤ count) × (length notices ≡ 48) × (memory ≡ rows (take i notices) ++ drop (10 * i) memory₀) × (length memory ≡ length memory₀)
+
+abbrev μ-loop : tie.MeasureT-loop
+μ-loop count memory₀ notices i₀ memory i = count - i
+
+loop-holds : tie.Need-loop-holds Inv-loop μ-loop
+unfolding rows
+loop-holds c = (search needs, search needs, refl, refl)
+
+mul-x : tie.Need-mul-x Inv-loop μ-loop
+mul-x c = search needs
+
+array-copy-out-x : tie.Need-array-copy-out-x Inv-loop μ-loop
+array-copy-out-x c = search needs
+
+filing-requires : tie.Need-filing-requires Inv-loop μ-loop
+filing-requires c κs = search needs
+
+mul-lay : tie.Need-mul-lay Inv-loop μ-loop
+mul-lay c = search needs
+
+lay-requires : tie.Need-lay-requires Inv-loop μ-loop
+lay-requires c κs = search needs
+
+add-i : tie.Need-add-i Inv-loop μ-loop
+add-i c = search needs
+
+loop-less : tie.Need-loop-less Inv-loop μ-loop
+loop-less c = search needs
+
+loop-again : tie.Need-loop-again Inv-loop μ-loop
+loop-again c =
+    let a = c .before .before .before .before .before .before .before .before .before .args in
+    let v = c .before .before .before .before .before .before .before .loop in
+    let l = c .before .before .lay in (
+      omega arith,
+      v .inv .1,
+      l .ensures ∙ rw (c .before .before .before .before .filing .ensures, v .inv .2) (one-row-more (a .t1) (v .i) filler (a .memory .now) (omega arith)),
+      l .kept .0 ∙ v .inv .3,
+    )
+
+same-length : tie.Need-same-length Inv-loop μ-loop
+same-length c = c .before .loop .inv .3
+
+returns : tie.Need-returns Inv-loop μ-loop
+returns c =
+    let e : c .before .loop .i ≡ c .before .before .before .args .count = omega arith in
+    rw (← e) (c .before .loop .inv .2)
+
+pub laid-spec : {M : Type 1} → statement M
+laid-spec =
+    tie.close
+    (tie.spec
+    Inv-loop
+    μ-loop
+    loop-holds
+    mul-x
+    array-copy-out-x
+    filing-requires
+    mul-lay
+    lay-requires
+    add-i
+    loop-less
+    loop-again
+    same-length
+    returns)

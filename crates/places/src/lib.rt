@@ -1,0 +1,119 @@
+// Document 01, 'Notices': notices in the places of an array, by rising number, and what an unused place holds.
+mod rows; // rows.rt: the listing's bytes
+
+use notices::Notice;
+use notices::Target;
+pub use rows::laid;
+ghost use mathlib.Core.Path.{_≡_};
+ghost use Prim.Native.Nat.{_+_, _≤_};
+ghost use lib.ListN.{take, drop};
+ghost use lib.Seq.{paste};
+ghost use Rattle.standing.specs.Rising.{filler, isFiller, littered, misfiled};
+ghost use Rattle.places.specs.Places.{placeOf};
+
+// What an unused place holds.
+pub fn filler() -> Notice
+    ensures { λ r. ⌜ r ≡ filler ⌝ }
+{
+    Notice {
+        number: 0,
+        target: Target::Links {
+            stage: 0,
+            switch: 0,
+            set: 0,
+        },
+    }
+}
+
+// Whether a place holds what unused places hold.
+pub fn is_filler(x: Notice) -> bool
+    ensures { λ r. ⌜ r ≡ isFiller x ⌝ }
+{
+    let t = x.target;
+    match t {
+        Target::Links { stage, switch, set } => {
+            table::both(
+                x.number == 0,
+                table::both(table::both(stage == 0, switch == 0), set == 0),
+            )
+        }
+        Target::Switch {
+            column: _,
+            switch: _,
+        } => table::both(x.number == 0, false),
+        Target::Pattern {
+            stage: _,
+            value: _,
+            mask: _,
+            set: _,
+        } => table::both(x.number == 0, false),
+    }
+}
+
+// Whether one of the first `count` notices is out of order, or one that filing refuses.
+pub fn misfiled(n: u8, notices: [Notice; 48], count: usize) -> bool
+    requires { ⌜ (count ≤ 48) × (n ≤ 12) ⌝ }
+    ensures { λ r. ⌜ r ≡ misfiled n 0 (take count notices) ⌝ }
+{
+    let mut last = 0;
+    let mut i = 0;
+    while i < count {
+        let x = notices[i];
+        if x.number <= last {
+            return true;
+        }
+        if targets::unfit(n, x) {
+            return true;
+        }
+        last = x.number;
+        i += 1;
+    }
+    false
+}
+
+// Whether a place after the first `count` holds anything but the filler.
+pub fn littered(notices: [Notice; 48], count: usize) -> bool
+    requires { ⌜ count ≤ 48 ⌝ }
+    ensures { λ r. ⌜ r ≡ littered (drop count notices) ⌝ }
+{
+    let mut i = count;
+    while i < 48 {
+        let x = notices[i];
+        if !is_filler(x) {
+            return true;
+        }
+        i += 1;
+    }
+    false
+}
+
+// How many of the first `count` notices come before the first whose number is k or more.
+pub fn place(notices: [Notice; 48], count: usize, k: u16) -> usize
+    requires { ⌜ count ≤ 48 ⌝ }
+    ensures { λ r. ⌜ (r ≡ placeOf k (take count notices)) × (r ≤ count) ⌝ }
+{
+    let mut i = 0;
+    while i < count {
+        let x = notices[i];
+        if k <= x.number {
+            return i;
+        }
+        i += 1;
+    }
+    i
+}
+
+// The array with `len` notices from `from` on laid from `to` on.
+pub fn moved(notices: [Notice; 48], from: usize, to: usize, len: usize) -> [Notice; 48]
+    requires { ⌜ (from + len ≤ 48) × (to + len ≤ 48) ⌝ }
+    ensures { λ r. ⌜ r ≡ paste notices to (drop from notices) len ⌝ }
+{
+    let mut out = notices;
+    let mut j = 0;
+    while j < len {
+        let x = notices[from + j];
+        out[to + j] = x;
+        j += 1;
+    }
+    out
+}

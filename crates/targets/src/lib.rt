@@ -1,0 +1,139 @@
+// Document 01, 'Notices': which links a target names, and the checks 4, 5 and 6 of a target.
+use notices::Notice;
+use notices::Target;
+ghost use mathlib.Core.Path.{_≡_};
+ghost use Prim.Native.Nat.{_≤_, _<_};
+ghost use Rattle.fabric.specs.Labels.{size};
+ghost use Rattle.notices.specs.Targets.{setHas, names, outsideFabric, badSet, badField, tooWide, unfit};
+
+// Whether a set has the link of a code.
+fn set_has(set: u8, code: u8) -> bool
+    requires { ⌜ code < 3 ⌝ }
+    ensures { λ r. ⌜ r ≡ setHas set code ⌝ }
+{
+    (set >> code) % 2 == 1
+}
+
+// Whether a notice names the link of a code that leaves a switch at a stage.
+pub fn names(n: u8, x: Notice, stage: u8, switch: u16, code: u8) -> bool
+    requires { ⌜ (n ≤ 12) × (stage < n) × (switch < size n) × (code < 3) ⌝ }
+    ensures { λ r. ⌜ r ≡ names n (x .target) stage switch code ⌝ }
+{
+    let t = x.target;
+    match t {
+        Target::Links {
+            stage: s,
+            switch: w,
+            set,
+        } => table::both(table::both(stage == s, switch == w), set_has(set, code)),
+        Target::Switch { column, switch: w } => table::both(
+            stage + 1 == column,
+            fabric::landing(n, stage, code, switch) == w,
+        ),
+        Target::Pattern {
+            stage: s,
+            value,
+            mask,
+            set,
+        } => table::both(
+            table::both(stage == s, switch & mask == value),
+            set_has(set, code),
+        ),
+    }
+}
+
+// 4
+pub fn outside_fabric(n: u8, x: Notice) -> bool
+    requires { ⌜ n ≤ 12 ⌝ }
+    ensures { λ r. ⌜ r ≡ outsideFabric n (x .target) ⌝ }
+{
+    let t = x.target;
+    match t {
+        Target::Links {
+            stage,
+            switch,
+            set: _,
+        } => table::either(n <= stage, fabric::outside_labels(n, switch)),
+        Target::Switch { column, switch } => table::either(
+            n < column,
+            fabric::outside_labels(n, switch),
+        ),
+        Target::Pattern {
+            stage,
+            value: _,
+            mask: _,
+            set: _,
+        } => n <= stage,
+    }
+}
+
+fn bad_set(set: u8) -> bool
+    ensures { λ r. ⌜ r ≡ badSet set ⌝ }
+{
+    table::either(set < 1, 7 < set)
+}
+
+// 5
+pub fn bad_field(n: u8, x: Notice) -> bool
+    requires { ⌜ n ≤ 12 ⌝ }
+    ensures { λ r. ⌜ r ≡ badField n (x .target) ⌝ }
+{
+    let t = x.target;
+    match t {
+        Target::Links {
+            stage: _,
+            switch: _,
+            set,
+        } => bad_set(set),
+        Target::Switch {
+            column: _,
+            switch: _,
+        } => false,
+        Target::Pattern {
+            stage: _,
+            value,
+            mask,
+            set,
+        } => {
+            table::either(
+                table::either(bad_set(set), fabric::outside_labels(n, mask)),
+                value & mask != value,
+            )
+        }
+    }
+}
+
+// 6
+pub fn too_wide(x: Notice) -> bool
+    ensures { λ r. ⌜ r ≡ tooWide (x .target) ⌝ }
+{
+    let t = x.target;
+    match t {
+        Target::Links {
+            stage: _,
+            switch: _,
+            set: _,
+        } => false,
+        Target::Switch {
+            column: _,
+            switch: _,
+        } => false,
+        Target::Pattern {
+            stage: _,
+            value: _,
+            mask,
+            set: _,
+        } => u16::count_ones(mask) < 2,
+    }
+}
+
+// Whether filing refuses the target for itself.
+pub fn unfit(n: u8, x: Notice) -> bool
+    requires { ⌜ n ≤ 12 ⌝ }
+    ensures { λ r. ⌜ r ≡ unfit n (x .target) ⌝ }
+{
+    table::either(
+        table::either(outside_fabric(n, x), bad_field(n, x)),
+        too_wide(x),
+    )
+}
