@@ -1,24 +1,23 @@
 // Document 01's entries for C and Rust: numbers and byte slices alone. include/tabashfar.h says how a host calls them. An answer is one
 // number (`packed`): its low byte is the table's number, 0 where the call was accepted, and the bits from 8 on hold the value.
-mod numbers; // numbers.rt: an answer as one number
-
 use actions::ACTION_LENGTH;
 use actions::HEADER_LENGTH;
 use book::Book;
 use handed::after_all;
 use notices::Notice;
 use notices::Target;
-use numbers::answered;
-use numbers::ended;
-use numbers::found;
-use numbers::header_told;
-use numbers::link_told;
-use numbers::listed;
-use numbers::ran;
-use numbers::tag_told;
-use numbers::there_told;
-use numbers::written;
-use packing::refused;
+use packer::BYTE;
+use packer::answered;
+use packer::ended;
+use packer::found;
+use packer::header_told;
+use packer::link_told;
+use packer::listed;
+use packer::ran;
+use packer::refused;
+use packer::tag_told;
+use packer::there_told;
+use packer::written;
 use sheet::Header;
 use sheet::There;
 ghost use mathlib.Core.Path.{_≡_};
@@ -32,7 +31,7 @@ ghost use Rattle.routes.specs.Routed.{routeSays, Routes};
 ghost use Rattle.actions.specs.Entries.{ReadsAction};
 ghost use Rattle.sheet.specs.Entries.{headerSays, thereSays, ReadsHeader, HasAction, startOf, partOf};
 ghost use Rattle.printed.specs.Runs.{ranSays, Runs};
-ghost use Rattle.packing.specs.Packed.{Tells};
+ghost use Rattle.packing.specs.Packed.{byte, Tells};
 ghost use Rattle.fields.specs.Fields.{kindSays, ReadsFields};
 ghost use Rattle.handed.specs.Books.{keptSays, OverSheet, ListsOver};
 
@@ -227,10 +226,10 @@ pub extern "C" fn tabashfar_has_action(sheet: &[u8], k: usize) -> u64
 // "A second entry returns a part only": how long it is in the low byte, and from bit 8 on where in the sheet it starts
 #[no_mangle]
 pub extern "C" fn tabashfar_action_part(sheet: &[u8], k: usize) -> u64
-    ensures { λ r. ⌜ r ≡ length (partOf (now (sheet .entry)) k) + 256 * startOf (now (sheet .entry)) k ⌝ }
+    ensures { λ r. ⌜ r ≡ length (partOf (now (sheet .entry)) k) + byte * startOf (now (sheet .entry)) k ⌝ }
 {
     match sheet_reader::has_action(sheet, k) {
-        There::Yes => (ACTION_LENGTH + 256 * (HEADER_LENGTH + ACTION_LENGTH * k)) as u64,
+        There::Yes => ACTION_LENGTH as u64 + BYTE * (HEADER_LENGTH + ACTION_LENGTH * k) as u64,
         There::Refused(_) => 0,
     }
 }

@@ -1,12 +1,13 @@
 // The action reader for C and Rust: which action a part holds, and its seven fields written into lent memory.
 use actions::Action;
-use packing::refused;
+use packer::BYTE;
+use packer::refused;
 use table::Refusal;
 ghost use mathlib.Core.Path.{_≡_};
 ghost use Prim.Native.Nat.{_*_, _≤_};
 ghost use mathlib.Core.List.{_++_};
 ghost use lib.ListN.{length, drop};
-ghost use Rattle.packing.specs.Packed.{packed};
+ghost use Rattle.packing.specs.Packed.{byte, packed};
 ghost use Rattle.actions.specs.Layout.{actionLength};
 ghost use Rattle.actions.specs.Format.{fieldsOf};
 ghost use Rattle.fields.specs.Fields.{kindSays, inOrder, ReadsFields};
@@ -17,12 +18,12 @@ pub fn kind(action: Action) -> u64
     ensures { λ r. ⌜ r ≡ packed (kindSays action) ⌝ }
 {
     match action {
-        Action::File(_) => 256,
-        Action::Withdraw(_) => 512,
+        Action::File(_) => BYTE,
+        Action::Withdraw(_) => 2 * BYTE,
         Action::Route {
             source: _,
             destination: _,
-        } => 768,
+        } => 3 * BYTE,
         Action::Refused(why) => refused(why),
     }
 }
@@ -70,9 +71,9 @@ fn write(part: &[u8], memory: &mut [u16])
 
 // Where the value stands in an answer.
 fn value(x: u8) -> u64
-    ensures { λ r. ⌜ r ≡ 256 * x ⌝ }
+    ensures { λ r. ⌜ r ≡ byte * x ⌝ }
 {
-    256 * x as u64
+    BYTE * x as u64
 }
 
 fn wide(x: u8) -> u16

@@ -1,7 +1,7 @@
 -- The number of each case.
 use borrow.Author.Needs.{needs}
-use Rattle.face.proofs.numbers.header_told.Statement.{statement}
-use Rattle.face.proofs.numbers.header_told.Tie as tie
+use Rattle.packer.proofs.header_told.Statement.{statement}
+use Rattle.packer.proofs.header_told.Tie as tie
 
 enum-known-answer : tie.Need-enum-known-answer
 enum-known-answer c = search needs

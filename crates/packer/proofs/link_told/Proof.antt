@@ -1,7 +1,7 @@
 -- The number of each case.
 use borrow.Author.Needs.{needs}
-use Rattle.face.proofs.numbers.link_told.Statement.{statement}
-use Rattle.face.proofs.numbers.link_told.Tie as tie
+use Rattle.packer.proofs.link_told.Statement.{statement}
+use Rattle.packer.proofs.link_told.Tie as tie
 
 enum-told : tie.Need-enum-told
 enum-told c = search needs

@@ -1,12 +1,12 @@
-// An answer as one number: the table's number in the low byte, 0 where the call was accepted, and the value from bit 8 on.
+// An answer as one number (`packed`): the table's number in the low byte, 0 where the call was accepted, and the value after it.
 use book::Answer;
 use book::Link;
 use book::Listing;
-use packing::refused;
 use printed::Ran;
 use routes::Found;
 use sheet::Header;
 use sheet::There;
+use table::Refusal;
 use tags::Tag;
 use tags::Written;
 use walks::Ended;
@@ -18,7 +18,18 @@ ghost use Rattle.walks.specs.Entries.{walkSays};
 ghost use Rattle.routes.specs.Routed.{routeSays};
 ghost use Rattle.sheet.specs.Entries.{headerSays, thereSays};
 ghost use Rattle.printed.specs.Runs.{ranSays};
+ghost use Rattle.table.specs.Numbers.{numberOf};
 ghost use Rattle.packing.specs.Packed.{packed};
+
+// What fits a byte.
+pub const BYTE: u64 = 256;
+
+// A refusal that comes alone.
+pub fn refused(why: Refusal) -> u64
+    ensures { λ r. ⌜ r ≡ numberOf why ⌝ }
+{
+    table::number(why) as u64
+}
 
 pub fn written(answer: Written) -> u64
     ensures { λ r. ⌜ r ≡ packed (writtenSays answer) ⌝ }
@@ -33,7 +44,7 @@ pub fn tag_told(answer: Tag) -> u64
     ensures { λ r. ⌜ r ≡ packed (tagSays answer) ⌝ }
 {
     match answer {
-        Tag::Normal(tag) => 256 * tag as u64,
+        Tag::Normal(tag) => BYTE * tag as u64,
         Tag::Refused(why) => refused(why),
     }
 }
@@ -52,7 +63,7 @@ pub fn link_told(answer: Link) -> u64
 {
     match answer {
         Link::Clear => 0,
-        Link::Stopped => 256,
+        Link::Stopped => BYTE,
         Link::Refused(why) => refused(why),
     }
 }
@@ -62,7 +73,7 @@ pub fn listed(answer: Listing) -> u64
     ensures { λ r. ⌜ r ≡ packed (listingSays answer) ⌝ }
 {
     match answer {
-        Listing::Listed(count) => 256 * count as u64,
+        Listing::Listed(count) => BYTE * count as u64,
         Listing::Refused(why) => refused(why),
     }
 }
@@ -72,7 +83,7 @@ pub fn ended(answer: Ended) -> u64
 {
     match answer {
         Ended::Clear => 0,
-        Ended::Stopped(stage) => 11 + 256 * stage as u64,
+        Ended::Stopped(stage) => 11 + BYTE * stage as u64,
         Ended::Astray => 17,
         Ended::Refused(why) => refused(why),
     }
@@ -82,8 +93,8 @@ pub fn found(answer: Found) -> u64
     ensures { λ r. ⌜ r ≡ packed (routeSays answer) ⌝ }
 {
     match answer {
-        Found::Tag(tag) => 256 * tag as u64,
-        Found::None(stage) => 11 + 256 * stage as u64,
+        Found::Tag(tag) => BYTE * tag as u64,
+        Found::None(stage) => 11 + BYTE * stage as u64,
         Found::Refused(why) => refused(why),
     }
 }
@@ -92,7 +103,7 @@ pub fn header_told(answer: Header) -> u64
     ensures { λ r. ⌜ r ≡ packed (headerSays answer) ⌝ }
 {
     match answer {
-        Header::Sheet { n, count } => 256 * (n as u64 + 256 * count as u64),
+        Header::Sheet { n, count } => BYTE * (n as u64 + BYTE * count as u64),
         Header::Refused(why) => refused(why),
     }
 }
@@ -111,7 +122,7 @@ pub fn ran(answer: Ran) -> u64
     ensures { λ r. ⌜ r ≡ packed (ranSays answer) ⌝ }
 {
     match answer {
-        Ran::Printed(bytes) => 256 * bytes as u64,
+        Ran::Printed(bytes) => BYTE * bytes as u64,
         Ran::Refused(why) => refused(why),
     }
 }
