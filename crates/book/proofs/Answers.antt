@@ -49,12 +49,6 @@ either-of a e f = e ∙ ap (λ (x : Bool). a || x) f
 pub turned : {made meant b : Bool} → made ≡ meant → not made ≡ b → not meant ≡ b
 turned e f = ap not (sym e) ∙ f
 
-pub few-by : {made : Bool} {b : Book} → (made ≡ false → Sound b) → made ≡ false → b .n ≤ 12
-few-by f e = f e .few
-
-pub fits-by : {made : Bool} {b : Book} → (made ≡ false → Sound b) → made ≡ false → b .count ≤ 48
-fits-by f e = f e .fits
-
 -- where neither stage nor switch is outside
 pub stage-by : (n i : ℕ) (other : Bool) {made : Bool} → made ≡ (leb n i || other) → made ≡ false → i < n
 stage-by n i other e f = leb-false n i (neither (leb n i) other (sym e ∙ f) .0)

@@ -4,13 +4,13 @@ use mathlib.Core.Bool.{false, _||_}
 use mathlib.Core.List.{List, [], _∷_}
 use Prim.Native.Nat.{ℕ, zero, suc, _-_, _<_}
 use native.Mathlib.Omega.{arith}
-use borrow.Author.Tests.{ltb-false}
+use borrow.Author.Tests.{ltb-false, le-ltb}
 use lib.ListN.{length, getD, replicate, length-drop}
 use lib.Seq.{length-take-le, getD-take}
-use Rattle.table.proofs.Checks.{neither}
+use Rattle.table.proofs.Checks.{neither, neither-of}
 use Rattle.table.specs.Checks.{_below_}
 use Rattle.fabric.specs.Labels.{outsideSizes}
-use Rattle.standing.proofs.Filings.{filed-if, unlittered}
+use Rattle.standing.proofs.Filings.{filed-if, filed-passes, unlittered, filler-unlittered}
 use Rattle.book.specs.declared.Book.{Book}
 use Rattle.notices.specs.declared.Notice.{Notice}
 use Rattle.standing.specs.Rising.{filler, Filed, misfiled, littered}
@@ -31,6 +31,17 @@ sound-if b n e =
       filed = filed-if (b .n) 0 (standing b) (p .1);
       rest = unlittered (unused b) (o .1) ∙ ap (λ (k : ℕ). replicate k filler) d;
     }
+
+-- and a book that is like that passes
+pub sound-passes : (b : Book) → Sound b → unsound b ≡ false
+sound-passes b s =
+    neither-of (outsideSizes (b .n) || 48 below b .count || misfiled (b .n) 0 (standing b)) (littered (unused b))
+    (neither-of (outsideSizes (b .n) || 48 below b .count) (misfiled (b .n) 0 (standing b))
+    (neither-of (outsideSizes (b .n)) (48 below b .count)
+    (neither-of (b .n below 1) (12 below b .n) (le-ltb (b .n) 1 (s .some)) (le-ltb 12 (b .n) (s .few)))
+    (le-ltb 48 (b .count) (s .fits)))
+    (filed-passes (b .n) 0 (standing b) (s .filed)))
+    (ap littered (s .rest) ∙ filler-unlittered (48 - b .count))
 
 -- the numbers of a list by rising number, by their places
 above-at : (n k : ℕ) (l : List Notice) → Filed n k l → (j : ℕ) → j < length l → k < getD l j filler .number

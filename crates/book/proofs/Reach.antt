@@ -1,27 +1,28 @@
 -- Number 16 by the letter: the test behind it is failed by exactly the books that no accepted opening, filing and withdrawing
 -- produce.
-use mathlib.Core.Path.{_≡_, refl, sym, ap, ap₂, subst, _∙_}
+use mathlib.Core.Path.{_≡_, refl, sym, ap, subst, _∙_}
 use mathlib.Core.Bool.{Bool, true, false, _||_}
-use mathlib.Core.List.{List, [], _∷_, _++_, map, List·Memᴰ, List·Memᴰ·head, List·Memᴰ·tail, List·Memᴰ·cases-cons, List·Memᴰ·not-nil, Memᴰ·cast}
+use mathlib.Core.List.{List, [], _∷_, map, List·Memᴰ, List·Memᴰ·head, List·Memᴰ·tail, List·Memᴰ·cases-cons, List·Memᴰ·not-nil, Memᴰ·cast}
 use mathlib.Core.Logic.{_⊎_, inl, inr, ⊎-elim}
 use Prim.Native.Nat.{ℕ, _-_, _≤_}
 use native.Mathlib.Omega.{arith}
-use borrow.Author.Tests.{ne-eqb, lt-leb, le-ltb}
+use borrow.Author.Tests.{ne-eqb, lt-leb}
 use lib.Dec.{leb}
-use lib.ListN.{length, replicate}
-use Rattle.table.proofs.Checks.{neither, neither-of, zero-one}
+use lib.ListN.{length}
+use Rattle.table.proofs.Checks.{neither, zero-one}
 use Rattle.table.specs.Reply.{Reply, refused}
 use Rattle.table.specs.Checks.{Passed, Passed.none, Passed.passes, _notBelow_, checked}
 use Rattle.fabric.specs.Labels.{outsideSizes}
 use Rattle.notices.specs.declared.Notice.{Notice}
 use Rattle.book.specs.declared.Book.{Book}
 use Rattle.notices.specs.Targets.{outsideFabric, badField, tooWide}
-use Rattle.standing.specs.Rising.{filler, stands, insert, Filed, Distinct}
+use Rattle.standing.specs.Rising.{stands, insert, Filed, Distinct}
 use Rattle.book.specs.Standing.{standing, bookOf, unsound}
 use Rattle.book.specs.Entries.{openChecks, opened, fileChecks}
 use Rattle.book.specs.Runs.{Change, after, Accepted, run, AllAccepted, Reachable}
 use Rattle.book.proofs.Filings.{sound-if}
-use Rattle.book.proofs.Placing.{length-standing, split}
+use Rattle.book.proofs.Placing.{length-standing}
+use Rattle.book.proofs.Sounds.{size-passes, whole}
 use Rattle.standing.proofs.Members.{Within, all-above, all-fit, one-number, filed-distinct, stands-member, insert-filed, insert-length, insert-member, insert-has, insert-keeps, within-length, same-notices}
 use Rattle.book.proofs.Changes.{standing-of, sound-of, Good, good-of, good-after, taken}
 
@@ -146,19 +147,16 @@ module _ (n : ℕ) (size : outsideSizes n ≡ false) (s : List Notice) (fs : Fil
 pub sound-reachable : (b : Book) → length (b .notices) ≡ 48 → unsound b ≡ false → Reachable b
 sound-reachable b full e =
     let u = sound-if b full e in
-    let size : outsideSizes (b .n) ≡ false = neither-of _ _ (le-ltb (b .n) 1 (u .some)) (le-ltb 12 (b .n) (u .few)) in
+    let size : outsideSizes (b .n) ≡ false = size-passes (b .n) (u .some) (u .few) in
     let l = length-standing b u full in
     let s : List Notice = standing b in
     let f = u .fits in
     let w = any-order (b .n) size s (u .filed) (omega arith) s (filed-distinct (b .n) 0 s (u .filed)) (λ x h. h) (λ x h. h) in
     let o = opened-is (b .n) size in
-    let whole : bookOf (b .n) s ≡ b =
-    ap₂ (λ (c : ℕ) (ns : List Notice). record { n = b .n; count = c; notices = ns }) l
-    (ap (λ (k : ℕ). s ++ replicate (48 - k) filler) l ∙ sym (split b u full)) in
     record {
       n = b .n;
       opens = rw size;
       changes = map Change.file s;
       accepts = rw o (w .1);
-      makes = ap (run (map Change.file s)) o ∙ w .0 ∙ whole;
+      makes = ap (run (map Change.file s)) o ∙ w .0 ∙ whole b u full;
     }

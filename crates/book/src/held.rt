@@ -6,7 +6,7 @@ ghost use mathlib.Core.Bool.{true};
 ghost use mathlib.Core.List.{[]};
 ghost use Prim.Native.Nat.{_+_, _<_};
 ghost use Rattle.standing.specs.Rising.{stands, insert, without};
-ghost use Rattle.book.specs.Standing.{standing, unused, bookOf, Sound};
+ghost use Rattle.book.specs.Standing.{standing, bookOf, Sound};
 ghost use Rattle.places.specs.Places.{placeOf};
 
 // The book of a fabric of n stages in which nothing stands.

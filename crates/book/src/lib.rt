@@ -4,7 +4,7 @@ use notices::Notice;
 use table::Refusal;
 ghost use mathlib.Core.Path.{_≡_};
 ghost use mathlib.Core.Bool.{false};
-ghost use Prim.Native.Nat.{_≤_, _<_};
+ghost use Prim.Native.Nat.{_<_};
 ghost use Rattle.fabric.specs.Labels.{size};
 ghost use Rattle.book.specs.Standing.{standing, stopper, unsound, Sound};
 ghost use Rattle.book.specs.Entries.{Opens, Files, Withdraws, Tests, Lists};
@@ -62,7 +62,7 @@ pub fn unsound(book: Book) -> bool
 
 // The lowest number of a standing notice that names the link, or 0.
 pub fn stopper(book: Book, stage: u8, switch: u16, code: u8) -> u16
-    requires { ⌜ (book .count ≤ 48) × (book .n ≤ 12) × (stage < book .n) × (switch < size (book .n)) × (code < 3) ⌝ }
+    requires { ⌜ (Sound book) × (stage < book .n) × (switch < size (book .n)) × (code < 3) ⌝ }
     ensures { λ r. ⌜ r ≡ stopper (book .n) (standing book) stage switch code ⌝ }
 {
     let n = book.n;
@@ -115,6 +115,14 @@ impl Book {
         if unsound(self) {
             return refused(self, Refusal::Book);
         }
+        self.filed(notice)
+    }
+
+    // file, over a book that 16 is not given for: 3, 4, 5, 6, 7, 8.
+    pub fn filed(self, notice: Notice) -> Kept
+        requires { ⌜ Sound self ⌝ }
+        ensures { λ r. ⌜ Files self notice r ⌝ }
+    {
         if notice.number == 0 {
             return refused(self, Refusal::Zero);
         }
@@ -144,6 +152,14 @@ impl Book {
         if unsound(self) {
             return refused(self, Refusal::Book);
         }
+        self.withdrawn(number)
+    }
+
+    // withdraw, over a book that 16 is not given for: 3, 9.
+    pub fn withdrawn(self, number: u16) -> Kept
+        requires { ⌜ Sound self ⌝ }
+        ensures { λ r. ⌜ Withdraws self number r ⌝ }
+    {
         if number == 0 {
             return refused(self, Refusal::Zero);
         }
@@ -160,6 +176,14 @@ impl Book {
         if unsound(self) {
             return Link::Refused(Refusal::Book);
         }
+        self.tested(stage, switch, code)
+    }
+
+    // link stopped or not, over a book that 16 is not given for: 4, 12.
+    pub fn tested(self, stage: u8, switch: u16, code: u8) -> Link
+        requires { ⌜ Sound self ⌝ }
+        ensures { λ r. ⌜ Tests self stage switch code r ⌝ }
+    {
         let n = self.n;
         if table::either(n <= stage, fabric::outside_labels(n, switch)) {
             return Link::Refused(Refusal::Place);
@@ -180,6 +204,14 @@ impl Book {
         if unsound(self) {
             return Listing::Refused(Refusal::Book);
         }
+        self.listed(memory)
+    }
+
+    // listing, over a book that 16 is not given for: 13.
+    pub fn listed(self, memory: &mut [u8]) -> Listing
+        requires { ⌜ Sound self ⌝ }
+        ensures { λ r. ⌜ Lists self (now (memory .entry)) (now (memory .exit)) r ⌝ }
+    {
         let count = self.count;
         if memory.len() < ACTION_LENGTH * count {
             return Listing::Refused(Refusal::Room);

@@ -7,7 +7,7 @@ ghost use Prim.Native.Nat.{_≤_, _<_};
 ghost use lib.Dec.{eqb};
 ghost use Rattle.fabric.specs.Labels.{size};
 ghost use Rattle.scheme.specs.Tags.{destination};
-ghost use Rattle.book.specs.Standing.{stopsOf};
+ghost use Rattle.book.specs.Standing.{Sound, stopsOf};
 ghost use Rattle.walks.specs.Entries.{Walked, Walks};
 
 // What a walk answers: clear, the first stage whose link is stopped, or that it ended away from its tag's destination.
@@ -25,6 +25,14 @@ pub fn walk(book: Book, source: u16, tag: u32) -> Ended
     if book::unsound(book) {
         return Ended::Refused(Refusal::Book);
     }
+    walked(book, source, tag)
+}
+
+// walk, over a book that 16 is not given for: 10, 12, 11, 17; otherwise clear.
+pub fn walked(book: Book, source: u16, tag: u32) -> Ended
+    requires { ⌜ Sound book ⌝ }
+    ensures { λ r. ⌜ Walks book source tag r ⌝ }
+{
     let n = book.n;
     if fabric::outside_labels(n, source) {
         return Ended::Refused(Refusal::Label);
@@ -37,7 +45,7 @@ pub fn walk(book: Book, source: u16, tag: u32) -> Ended
 
 // The walk along the steps of a tag.
 fn along(book: Book, source: u16, tag: u32) -> Ended
-    requires { ⌜ (book .count ≤ 48) × (book .n ≤ 12) × (source < size (book .n)) ⌝ }
+    requires { ⌜ (Sound book) × (source < size (book .n)) ⌝ }
     ensures { λ r. ⌜ Walked (book .n) (stopsOf book) source tag r ⌝ }
 {
     let n = book.n;

@@ -1,7 +1,7 @@
--- The checks in 01's order; past them all the link is clear exactly where its stopper is 0.
+-- 16 by the book's own test; past it the book is sound.
 use borrow.Author.Needs.{needs}
-use Rattle.table.proofs.Checks.{refusing, accepting}
-use Rattle.book.proofs.Answers.{either-of, few-by, fits-by, stage-by, switch-by, link-refused, link-clear, link-stopped}
+use Rattle.table.proofs.Checks.{refusing}
+use Rattle.book.proofs.Answers.{link-refused}
 use Rattle.book.proofs.Book.link.Statement.{statement}
 use Rattle.book.proofs.Book.link.Tie as tie
 
@@ -11,37 +11,11 @@ unsound-requires c κs = search needs
 returns : tie.Need-returns
 returns c = search (link-refused, refusing) depth 12
 
-outside-labels-requires : tie.Need-outside-labels-requires
-outside-labels-requires c κs = search (needs, few-by)
-
-either-requires : tie.Need-either-requires
-either-requires c κs = search needs
+tested-requires : tie.Need-tested-requires
+tested-requires c κs = c .before .unsound .ensures .1 (c .if1 .left)
 
 returns-2 : tie.Need-returns-2
-returns-2 c = search (link-refused, refusing, either-of) depth 12
-
-returns-3 : tie.Need-returns-3
-returns-3 c = search (link-refused, refusing, either-of) depth 12
-
-stopper-requires : tie.Need-stopper-requires
-stopper-requires c κs = (search (needs, fits-by), search (needs, few-by), search (needs, stage-by), search (needs, switch-by), search needs)
-
-returns-4 : tie.Need-returns-4
-returns-4 c = search (link-clear, accepting, either-of) depth 12
-
-returns-5 : tie.Need-returns-5
-returns-5 c = search (link-stopped, accepting, either-of) depth 12
+returns-2 c = c .tested .ensures
 
 pub link-spec : {M : Type 1} → statement M
-link-spec =
-    tie.close
-    (tie.spec
-    unsound-requires
-    returns
-    outside-labels-requires
-    either-requires
-    returns-2
-    returns-3
-    stopper-requires
-    returns-4
-    returns-5)
+link-spec = tie.close (tie.spec unsound-requires returns tested-requires returns-2)

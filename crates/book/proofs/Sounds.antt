@@ -1,0 +1,59 @@
+-- A sound book stays sound: what is opened is sound, and so is what a filing or withdrawing of a sound book leaves.
+use mathlib.Core.Path.{_≡_, sym, ap, ap₂, subst, _∙_}
+use mathlib.Core.Bool.{false}
+use mathlib.Core.List.{List, [], _++_}
+use Prim.Native.Nat.{ℕ, _-_, _≤_}
+use native.Mathlib.Omega.{arith}
+use borrow.Author.Tests.{le-ltb}
+use lib.ListN.{length, replicate}
+use lib.Seq.{drop-append-seam}
+use Rattle.table.proofs.Checks.{neither-of}
+use Rattle.fabric.specs.Labels.{outsideSizes}
+use Rattle.notices.specs.declared.Notice.{Notice}
+use Rattle.standing.specs.Rising.{filler, Filed}
+use Rattle.book.specs.declared.Book.{Book}
+use Rattle.book.specs.declared.Kept.{Kept}
+use Rattle.book.specs.Standing.{standing, bookOf, Sound}
+use Rattle.book.specs.Entries.{Opens, Files, Withdraws}
+use Rattle.book.specs.Runs.{Change, after}
+use Rattle.book.proofs.Placing.{length-standing, split}
+use Rattle.book.proofs.Changes.{standing-of, good-after}
+
+-- the sizes of 01, as the test of them says
+pub size-passes : (n : ℕ) → 1 ≤ n → n ≤ 12 → outsideSizes n ≡ false
+size-passes n some few = neither-of _ _ (le-ltb n 1 some) (le-ltb 12 n few)
+
+-- a sound book is the book of what stands in it
+pub whole : (b : Book) → Sound b → length (b .notices) ≡ 48 → bookOf (b .n) (standing b) ≡ b
+whole b sound places =
+    let l = length-standing b sound places in
+    ap₂ (λ (c : ℕ) (ns : List Notice). record { n = b .n; count = c; notices = ns }) l
+    (ap (λ (k : ℕ). standing b ++ replicate (48 - k) filler) l ∙ sym (split b sound places))
+
+sound-book : (n : ℕ) (l : List Notice) → 1 ≤ n → n ≤ 12 → Filed n 0 l → length l ≤ 48 → Sound (bookOf n l)
+sound-book n l some few filed fits =
+    record {
+      some = some;
+      few = few;
+      fits = fits;
+      filed = rw standing-of filed;
+      rest = drop-append-seam l (replicate (48 - length l) filler);
+    }
+
+pub opens-sound : (n : ℕ) (r : Kept) → 1 ≤ n → n ≤ 12 → Opens n r → Sound (r .book)
+unfolding Filed
+opens-sound n r some few o = subst Sound (sym (o .leaves ∙ rw (size-passes n some few))) (sound-book n [] some few tt (omega arith))
+
+module _ (b : Book) (places : length (b .notices) ≡ 48) (sound : Sound b) where
+  pub sound-after : (a : Change) → Sound (after a b)
+  sound-after a =
+      let l = length-standing b sound places in
+      let f = sound .fits in
+      let g = good-after (b .n) b (record { whole = sym (whole b sound places); filed = sound .filed; fits = omega arith }) a in
+      subst Sound (sym (g .whole)) (sound-book (b .n) (standing (after a b)) (sound .some) (sound .few) (g .filed) (g .fits))
+
+  pub files-sound : (x : Notice) (r : Kept) → Files b x r → Sound (r .book)
+  files-sound x r p = subst Sound (sym (p .leaves)) (sound-after (Change.file x))
+
+  pub withdraws-sound : (k : ℕ) (r : Kept) → Withdraws b k r → Sound (r .book)
+  withdraws-sound k r p = subst Sound (sym (p .leaves)) (sound-after (Change.withdraw k))
