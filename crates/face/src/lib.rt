@@ -74,7 +74,7 @@ fn filed(sheet: &[u8], notice: Notice) -> u64
 {
     match sheet_reader::read_header(sheet) {
         Header::Sheet { n, count } => {
-            let kept = after_all(sheet, n, count).file(notice);
+            let kept = after_all(sheet, n, count).filed(notice);
             let answer = kept.answer;
             answered(answer)
         }
@@ -147,7 +147,7 @@ pub extern "C" fn tabashfar_withdraw(sheet: &[u8], number: u16) -> u64
 {
     match sheet_reader::read_header(sheet) {
         Header::Sheet { n, count } => {
-            let kept = after_all(sheet, n, count).withdraw(number);
+            let kept = after_all(sheet, n, count).withdrawn(number);
             let answer = kept.answer;
             answered(answer)
         }
@@ -161,7 +161,7 @@ pub extern "C" fn tabashfar_link(sheet: &[u8], stage: u8, switch: u16, code: u8)
     ensures { λ r. ⌜ OverSheet (now (sheet .entry)) (λ b. Tells (Tests b stage switch code) linkSays) r ⌝ }
 {
     match sheet_reader::read_header(sheet) {
-        Header::Sheet { n, count } => link_told(after_all(sheet, n, count).link(
+        Header::Sheet { n, count } => link_told(after_all(sheet, n, count).tested(
             stage,
             switch,
             code,
@@ -191,7 +191,7 @@ pub extern "C" fn tabashfar_walk(sheet: &[u8], source: u16, tag: u32) -> u64
     ensures { λ r. ⌜ OverSheet (now (sheet .entry)) (λ b. Tells (Walks b source tag) walkSays) r ⌝ }
 {
     match sheet_reader::read_header(sheet) {
-        Header::Sheet { n, count } => ended(walks::walk(after_all(sheet, n, count), source, tag)),
+        Header::Sheet { n, count } => ended(walks::walked(after_all(sheet, n, count), source, tag)),
         Header::Refused(why) => refused(why),
     }
 }
@@ -202,7 +202,7 @@ pub extern "C" fn tabashfar_listing(sheet: &[u8], memory: &mut [u8]) -> u64
     ensures { λ r. ⌜ ListsOver (now (sheet .entry)) (now (memory .entry)) (now (memory .exit)) r ⌝ }
 {
     match sheet_reader::read_header(sheet) {
-        Header::Sheet { n, count } => listed(after_all(sheet, n, count).listing(memory)),
+        Header::Sheet { n, count } => listed(after_all(sheet, n, count).listed(memory)),
         Header::Refused(why) => refused(why),
     }
 }

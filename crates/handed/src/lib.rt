@@ -1,11 +1,14 @@
 // The book that a host hands over as a sheet: the one that the sheet's filings and withdrawals make.
 use actions::Action;
 use book::Book;
+ghost use Prim.Native.Nat.{_≤_};
+ghost use Rattle.book.specs.Standing.{Sound};
 ghost use Rattle.handed.specs.Books.{Leaves, After};
 
-// The book after the first `count` actions of a sheet, its routes passed over.
+// The book after the first `count` actions of a sheet, its routes passed over. It is sound from its opening on, so 16 is not tested.
 pub fn after_all(sheet: &[u8], n: u8, count: u16) -> Book
-    ensures { λ r. ⌜ After (now (sheet .entry)) n count r ⌝ }
+    requires { ⌜ (1 ≤ n) × (n ≤ 12) ⌝ }
+    ensures { λ r. ⌜ (After (now (sheet .entry)) n count r) × (Sound r) ⌝ }
 {
     let opened = Book::open(n);
     let mut book = opened.book;
@@ -20,16 +23,17 @@ pub fn after_all(sheet: &[u8], n: u8, count: u16) -> Book
 }
 
 fn after_one(book: Book, action: Action) -> Book
-    ensures { λ r. ⌜ Leaves action book r ⌝ }
+    requires { ⌜ Sound book ⌝ }
+    ensures { λ r. ⌜ (Leaves action book r) × (Sound r) ⌝ }
 {
     match action {
         Action::File(notice) => {
-            let kept = book.file(notice);
+            let kept = book.filed(notice);
             let filed = kept.book;
             filed
         }
         Action::Withdraw(k) => {
-            let kept = book.withdraw(k);
+            let kept = book.withdrawn(k);
             let left = kept.book;
             left
         }

@@ -3,13 +3,13 @@ use mathlib.Core.Path.{_≡_, refl, sym, ap, _∙_}
 use mathlib.Core.List.{List, [], _∷_}
 use Prim.Native.Nat.{ℕ, _+_, _-_, _≤_, _<_}
 use native.Mathlib.Omega.{arith}
-use borrow.Author.Tests.{le-leb, lt-leb, leb-false}
+use borrow.Author.Tests.{le-leb, lt-leb, leb-false, ltb-false}
 use lib.ListN.{length, take, drop}
 use Rattle.table.specs.declared.Refusal.{Refusal}
 use Rattle.table.specs.Numbers.{numberOf}
 use Rattle.table.specs.Reply.{Reply.accepted, refused}
-use Rattle.table.specs.Checks.{_when_, _notBelow_, Given, Given.here, Passed, Passed.none, Passed.passes}
-use Rattle.table.proofs.Checks.{given-refuses, passed-accepts, accepted-passed, refused-given, accepted-says, given-before, given-after, passed-both, passed-nth}
+use Rattle.table.specs.Checks.{_when_, _below_, _notBelow_, Given, Given.here, Passed, Passed.none, Passed.passes}
+use Rattle.table.proofs.Checks.{given-refuses, passed-accepts, accepted-passed, refused-given, accepted-says, given-before, given-after, passed-both, passed-nth, neither}
 use Rattle.sheet.specs.declared.Header.{Header}
 use Rattle.sheet.specs.declared.There.{There}
 use Rattle.actions.specs.Layout.{bytesBefore}
@@ -41,6 +41,16 @@ module _ {sheet : List ℕ} where
   header-fields {n} {count} r =
       let e : n ∷ count ∷ [] ≡ sizeIn sheet ∷ countIn sheet ∷ [] = accepted-says (headerChecks sheet) (sizeIn sheet ∷ countIn sheet ∷ []) (n ∷ count ∷ []) (r .says) in
       ((cc), (cc))
+
+-- 1: the sizes that the header hands out
+pub header-sizes : {sheet : List ℕ} {h : Header} {n count : ℕ} → ReadsHeader sheet h → h ≡ Header.Sheet n count → (1 ≤ n) × (n ≤ 12)
+header-sizes {sheet} {h} {n} {count} r e =
+    let q : ReadsHeader sheet (Header.Sheet n count) = rw e at r in
+    let w = neither (sizeIn sheet below 1) (12 below sizeIn sheet) (passed-nth (headerChecks sheet) 1 (header-passed q)) in
+    let some = ltb-false (sizeIn sheet) 1 (w .0) in
+    let few = ltb-false 12 (sizeIn sheet) (w .1) in
+    let same = header-fields q .0 in
+    (omega arith, omega arith)
 
 module _ {sheet : List ℕ} {k : ℕ} where
   pub there-refuses : {why : Refusal} → Given (numberOf why) (thereChecks sheet k) → HasAction sheet k (There.Refused why)

@@ -1,6 +1,7 @@
 -- The header's refusal, or the entry over the book after the sheet's actions.
 use Rattle.handed.proofs.Overs.{over-whole, over-refused}
 use borrow.Author.Needs.{needs}
+use Rattle.sheet.proofs.Promises.{header-sizes}
 use Rattle.face.proofs.tabashfar_link.Statement.{statement}
 use Rattle.face.proofs.tabashfar_link.Tie as tie
 
@@ -11,10 +12,10 @@ enum-known-n : tie.Need-enum-known-n
 enum-known-n c = search needs
 
 after-all-requires : tie.Need-after-all-requires
-after-all-requires c κs = search needs
+after-all-requires c κs = header-sizes (c .before .before .before .read-header .ensures) (c .before .n .given .1)
 
-link-requires : tie.Need-link-requires
-link-requires c κs = search needs
+tested-requires : tie.Need-tested-requires
+tested-requires c κs = search needs
 
 link-told-requires : tie.Need-link-told-requires
 link-told-requires c κs = search needs
@@ -27,8 +28,8 @@ refused-requires c κs = search needs
 
 returns : tie.Need-returns
 returns c =
-    over-whole (c .before .before .before .before .before .before .read-header .ensures) (c .before .before .before .before .n .given .1) (c .before .before .after-all .ensures)
-    (c .before .link .result, c .before .link .ensures, c .link-told .ensures)
+    over-whole (c .before .before .before .before .before .before .read-header .ensures) (c .before .before .before .before .n .given .1) (c .before .before .after-all .ensures .0)
+    (c .before .tested .result, c .before .tested .ensures, c .link-told .ensures)
 
 returns-2 : tie.Need-returns-2
 returns-2 c = over-refused (c .before .before .before .before .read-header .ensures) (c .before .before .why .given .1) (c .refused .ensures)
@@ -40,7 +41,7 @@ tabashfar-link-spec =
     read-header-requires
     enum-known-n
     after-all-requires
-    link-requires
+    tested-requires
     link-told-requires
     enum-known-why
     refused-requires

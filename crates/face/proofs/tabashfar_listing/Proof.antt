@@ -2,6 +2,7 @@
 use Rattle.face.proofs.Few.{few-listed}
 use Rattle.handed.proofs.Overs.{lists-whole, lists-refused}
 use borrow.Author.Needs.{needs}
+use Rattle.sheet.proofs.Promises.{header-sizes}
 use Rattle.face.proofs.tabashfar_listing.Statement.{statement}
 use Rattle.face.proofs.tabashfar_listing.Tie as tie
 
@@ -12,13 +13,13 @@ enum-known-n : tie.Need-enum-known-n
 enum-known-n c = search needs
 
 after-all-requires : tie.Need-after-all-requires
-after-all-requires c κs = search needs
-
-listing-requires : tie.Need-listing-requires
-listing-requires c κs = search needs
+after-all-requires c κs = header-sizes (c .before .before .before .read-header .ensures) (c .before .n .given .1)
 
 listed-requires : tie.Need-listed-requires
-listed-requires c κs = λ count e. few-listed (c .before .before .listing .ensures) e
+listed-requires c κs = search needs
+
+listed-requires-2 : tie.Need-listed-requires-2
+listed-requires-2 c κs = λ count e. few-listed (c .before .before .listed .ensures) e
 
 enum-known-why : tie.Need-enum-known-why
 enum-known-why c = search needs
@@ -31,11 +32,11 @@ same-length c = search needs
 
 returns : tie.Need-returns
 returns c =
-    let l = c .before .before .before .listing in
+    let l = c .before .before .before .listed in
     let n = c .before .before .before .before .before .before .before .n in
     let r = c .before .before .before .before .before .before .before .before .before .read-header in
     let a = c .before .before .before .before .before .after-all in
-    lists-whole (r .ensures) (n .given .1) (a .ensures) (l .result, l .ensures, c .listed .ensures)
+    lists-whole (r .ensures) (n .given .1) (a .ensures .0) (l .result, l .ensures, c .listed2 .ensures)
 
 returns-2 : tie.Need-returns-2
 returns-2 c = lists-refused (c .before .before .before .before .read-header .ensures) (c .before .before .why .given .1) (c .refused .ensures)
@@ -47,8 +48,8 @@ tabashfar-listing-spec =
     read-header-requires
     enum-known-n
     after-all-requires
-    listing-requires
     listed-requires
+    listed-requires-2
     enum-known-why
     refused-requires
     same-length

@@ -1,6 +1,7 @@
 -- The header's refusal, or the entry over the book after the sheet's actions.
 use Rattle.handed.proofs.Overs.{over-whole, over-refused}
 use borrow.Author.Needs.{needs}
+use Rattle.sheet.proofs.Promises.{header-sizes}
 use Rattle.face.proofs.tabashfar_route.Statement.{statement}
 use Rattle.face.proofs.tabashfar_route.Tie as tie
 
@@ -11,7 +12,7 @@ enum-known-n : tie.Need-enum-known-n
 enum-known-n c = search needs
 
 after-all-requires : tie.Need-after-all-requires
-after-all-requires c κs = search needs
+after-all-requires c κs = header-sizes (c .before .before .before .read-header .ensures) (c .before .n .given .1)
 
 route-requires : tie.Need-route-requires
 route-requires c κs = search needs
@@ -27,7 +28,7 @@ refused-requires c κs = search needs
 
 returns : tie.Need-returns
 returns c =
-    over-whole (c .before .before .before .before .before .before .read-header .ensures) (c .before .before .before .before .n .given .1) (c .before .before .after-all .ensures)
+    over-whole (c .before .before .before .before .before .before .read-header .ensures) (c .before .before .before .before .n .given .1) (c .before .before .after-all .ensures .0)
     (c .before .route .result, c .before .route .ensures, c .found .ensures)
 
 returns-2 : tie.Need-returns-2

@@ -1,6 +1,7 @@
 -- The header's refusal, or the entry over the book after the sheet's actions.
 use Rattle.handed.proofs.Overs.{over-whole, over-refused}
 use borrow.Author.Needs.{needs}
+use Rattle.sheet.proofs.Promises.{header-sizes}
 use Rattle.face.proofs.tabashfar_walk.Statement.{statement}
 use Rattle.face.proofs.tabashfar_walk.Tie as tie
 
@@ -11,10 +12,10 @@ enum-known-n : tie.Need-enum-known-n
 enum-known-n c = search needs
 
 after-all-requires : tie.Need-after-all-requires
-after-all-requires c κs = search needs
+after-all-requires c κs = header-sizes (c .before .before .before .read-header .ensures) (c .before .n .given .1)
 
-walk-requires : tie.Need-walk-requires
-walk-requires c κs = search needs
+walked-requires : tie.Need-walked-requires
+walked-requires c κs = search needs
 
 ended-requires : tie.Need-ended-requires
 ended-requires c κs = search needs
@@ -27,8 +28,8 @@ refused-requires c κs = search needs
 
 returns : tie.Need-returns
 returns c =
-    over-whole (c .before .before .before .before .before .before .read-header .ensures) (c .before .before .before .before .n .given .1) (c .before .before .after-all .ensures)
-    (c .before .walk .result, c .before .walk .ensures, c .ended .ensures)
+    over-whole (c .before .before .before .before .before .before .read-header .ensures) (c .before .before .before .before .n .given .1) (c .before .before .after-all .ensures .0)
+    (c .before .walked .result, c .before .walked .ensures, c .ended .ensures)
 
 returns-2 : tie.Need-returns-2
 returns-2 c = over-refused (c .before .before .before .before .read-header .ensures) (c .before .before .why .given .1) (c .refused .ensures)
@@ -40,7 +41,7 @@ tabashfar-walk-spec =
     read-header-requires
     enum-known-n
     after-all-requires
-    walk-requires
+    walked-requires
     ended-requires
     enum-known-why
     refused-requires

@@ -1,20 +1,23 @@
--- What the entry of the action hands back.
-use mathlib.Core.Path.{refl}
+-- What the entry of the action hands back, which is sound again.
+use mathlib.Core.Path.{_≡_, refl}
 use borrow.Author.Needs.{needs}
+use lib.ListN.{length}
+use Rattle.places.proofs.Arrays.{length-mapped}
+use Rattle.book.proofs.Sounds.{files-sound, withdraws-sound}
 use Rattle.handed.proofs.after_one.Statement.{statement}
 use Rattle.handed.proofs.after_one.Tie as tie
 
 enum-known-action : tie.Need-enum-known-action
 enum-known-action c = search needs
 
-file-requires : tie.Need-file-requires
-file-requires c κs = search needs
+filed-requires : tie.Need-filed-requires
+filed-requires c κs = search needs
 
 enum-known-action-2 : tie.Need-enum-known-action-2
 enum-known-action-2 c = search needs
 
-withdraw-requires : tie.Need-withdraw-requires
-withdraw-requires c κs = search needs
+withdrawn-requires : tie.Need-withdrawn-requires
+withdrawn-requires c κs = search needs
 
 enum-told : tie.Need-enum-told
 enum-told c = search needs
@@ -23,25 +26,35 @@ enum-told-2 : tie.Need-enum-told-2
 enum-told-2 c = search needs
 
 returns : tie.Need-returns
-returns c = rw (c .before .before .before .action .given .1) (c .before .file .result, c .before .file .ensures, refl)
+returns c =
+    let start = c .before .before .before .before .before in
+    let b = start .args .book in
+    let kept = c .before .filed in
+    let places : length (b .notices) ≡ 48 = search (needs, length-mapped) in
+    (rw (c .before .before .before .action .given .1) (kept .result, kept .ensures, refl), files-sound b places (start .pre) _ (kept .result) (kept .ensures))
 
 returns-2 : tie.Need-returns-2
-returns-2 c = rw (c .before .before .before .action2 .given .1) (c .before .withdraw .result, c .before .withdraw .ensures, refl)
+returns-2 c =
+    let start = c .before .before .before .before .before in
+    let b = start .args .book in
+    let kept = c .before .withdrawn in
+    let places : length (b .notices) ≡ 48 = search (needs, length-mapped) in
+    (rw (c .before .before .before .action2 .given .1) (kept .result, kept .ensures, refl), withdraws-sound b places (start .pre) _ (kept .result) (kept .ensures))
 
 returns-3 : tie.Need-returns-3
-returns-3 c = rw (c .enum-told .given .1) refl
+returns-3 c = (rw (c .enum-told .given .1) refl, c .before .before .pre)
 
 returns-4 : tie.Need-returns-4
-returns-4 c = rw (c .enum-told2 .given .1) refl
+returns-4 c = (rw (c .enum-told2 .given .1) refl, c .before .before .pre)
 
 pub after-one-spec : {M : Type 1} → statement M
 after-one-spec =
     tie.close
     (tie.spec
     enum-known-action
-    file-requires
+    filed-requires
     enum-known-action-2
-    withdraw-requires
+    withdrawn-requires
     enum-told
     enum-told-2
     returns
