@@ -2,10 +2,10 @@
 use book::Answer;
 use routes::Found;
 use words::bits;
-use words::number;
+use words::number_told;
 use words::refusal_told;
 use words::word;
-ghost use Prim.Native.Nat.{ℕ, _+_, _≤_};
+ghost use Prim.Native.Nat.{_+_, _≤_};
 ghost use lib.ListN.{length};
 ghost use Rattle.printed.specs.Words.{ending};
 ghost use Rattle.words.specs.Wrote.{Wrote};
@@ -29,7 +29,7 @@ pub fn found_told(n: u8, out: &mut [u8], at: usize, answer: Found) -> usize
 {
     match answer {
         Found::Tag(tag) => tag_told(n, out, at, tag),
-        Found::None(stage) => stage_told(out, at, stage),
+        Found::None(stage) => number_told(out, at, b" NONE ", stage as u16),
         Found::Refused(why) => refusal_told(out, at, why),
     }
 }
@@ -40,14 +40,5 @@ fn tag_told(n: u8, out: &mut [u8], at: usize, tag: u32) -> usize
 {
     let mid = word(out, at, b" TAG ");
     let end = bits(out, mid, 2 * n, tag);
-    word(out, end, b"\n")
-}
-
-fn stage_told(out: &mut [u8], at: usize, stage: u8) -> usize
-    requires { ⌜ at + 30 ≤ length (now out) ⌝ }
-    ensures { λ r. ⌜ ((n : ℕ) → Wrote (now (out .entry)) at (ending (foundTold n (Found.None stage))) (now (out .exit)) r) × (r ≤ at + 30) ⌝ }
-{
-    let mid = word(out, at, b" NONE ");
-    let end = number(out, mid, stage as u16);
     word(out, end, b"\n")
 }

@@ -3,15 +3,15 @@ use actions::Action;
 use answers::answer_told;
 use answers::found_told;
 use book::Book;
-use notices::Notice;
+use book::Kept;
 use table::Refusal;
 use words::number;
 use words::refusal_told;
 use words::word;
 ghost use Prim.Native.Nat.{ℕ, _+_, _≤_};
 ghost use lib.ListN.{length};
-ghost use Rattle.printed.specs.Told.{told};
-ghost use Rattle.lines.specs.Written.{LineAtWritten, LineWritten};
+ghost use Rattle.printed.specs.Runs.{actionRoom};
+ghost use Rattle.lines.specs.Written.{NoticeWritten, LineWritten, LineAtWritten};
 
 // What is handed on to the next action: the book, and the place after what is written.
 pub struct Next {
@@ -21,12 +21,12 @@ pub struct Next {
 
 // "a line per action"
 pub fn action_line(n: u8, book: Book, part: &[u8], out: &mut [u8], at: usize) -> Next
-    requires { ⌜ (n ≤ 12) × (at + 48 ≤ length (now out)) ⌝ }
+    requires { ⌜ (n ≤ 12) × (at + actionRoom ≤ length (now out)) ⌝ }
     ensures { λ r. ⌜ LineAtWritten n book (now (part .entry)) (now (out .entry)) at (now (out .exit)) r ⌝ }
 {
     match action_bytes::read_action(part) {
-        Action::File(notice) => file_line(book, notice, out, at),
-        Action::Withdraw(k) => withdraw_line(book, k, out, at),
+        Action::File(notice) => notice_line(b"FILE ", notice.number, book.file(notice), out, at),
+        Action::Withdraw(k) => notice_line(b"WITHDRAW ", k, book.withdraw(k), out, at),
         Action::Route {
             source,
             destination,
@@ -35,40 +35,21 @@ pub fn action_line(n: u8, book: Book, part: &[u8], out: &mut [u8], at: usize) ->
     }
 }
 
-fn file_line(book: Book, notice: Notice, out: &mut [u8], at: usize) -> Next
-    requires { ⌜ at + 48 ≤ length (now out) ⌝ }
-    ensures { λ r. ⌜ ((n : ℕ) → LineWritten n book (Action.File notice) (now (out .entry)) at (now (out .exit)) r) ⌝ }
+// The line of a filing or a withdrawal: its word, the notice number, and what the book's entry answered.
+fn notice_line(name: &[u8], k: u16, kept: Kept, out: &mut [u8], at: usize) -> Next
+    requires { ⌜ (length (now name) ≤ 9) × (at + actionRoom ≤ length (now out)) ⌝ }
+    ensures { λ r. ⌜ NoticeWritten (now (name .entry)) k kept (now (out .entry)) at (now (out .exit)) r ⌝ }
 {
-    let kept = book.file(notice);
     let answer = kept.answer;
-    let mid = word(out, at, b"FILE ");
-    let end = number(out, mid, notice.number);
-    let next = answer_told(out, end, answer);
-    let after = kept.book;
-    Next {
-        book: after,
-        at: next,
-    }
-}
-
-fn withdraw_line(book: Book, k: u16, out: &mut [u8], at: usize) -> Next
-    requires { ⌜ at + 48 ≤ length (now out) ⌝ }
-    ensures { λ r. ⌜ ((n : ℕ) → LineWritten n book (Action.Withdraw k) (now (out .entry)) at (now (out .exit)) r) ⌝ }
-{
-    let kept = book.withdraw(k);
-    let answer = kept.answer;
-    let mid = word(out, at, b"WITHDRAW ");
+    let book = kept.book;
+    let mid = word(out, at, name);
     let end = number(out, mid, k);
     let next = answer_told(out, end, answer);
-    let after = kept.book;
-    Next {
-        book: after,
-        at: next,
-    }
+    Next { book, at: next }
 }
 
 fn route_line(n: u8, book: Book, source: u16, destination: u16, out: &mut [u8], at: usize) -> Next
-    requires { ⌜ (n ≤ 12) × (at + 48 ≤ length (now out)) ⌝ }
+    requires { ⌜ (n ≤ 12) × (at + actionRoom ≤ length (now out)) ⌝ }
     ensures { λ r. ⌜ LineWritten n book (Action.Route source destination) (now (out .entry)) at (now (out .exit)) r ⌝ }
 {
     let answer = router::route(book, source, destination);
@@ -81,7 +62,7 @@ fn route_line(n: u8, book: Book, source: u16, destination: u16, out: &mut [u8], 
 }
 
 fn fault_line(book: Book, why: Refusal, out: &mut [u8], at: usize) -> Next
-    requires { ⌜ at + 48 ≤ length (now out) ⌝ }
+    requires { ⌜ at + actionRoom ≤ length (now out) ⌝ }
     ensures { λ r. ⌜ ((n : ℕ) → LineWritten n book (Action.Refused why) (now (out .entry)) at (now (out .exit)) r) ⌝ }
 {
     let end = word(out, at, b"ACTION");

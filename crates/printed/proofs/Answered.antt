@@ -5,13 +5,12 @@ use Prim.Native.Nat.{ℕ, _<_}
 use lib.ListN.{length, getD}
 use Rattle.table.specs.declared.Refusal.{Refusal}
 use Rattle.table.specs.Checks.{Given.here, Given.later}
-use Rattle.printed.specs.Words.{ascii, decimalIn, decimal, ending, FILE, WITHDRAW, ROUTE, ACTION}
-use Rattle.printed.proofs.WordsSpelled.{Within, line-feed-last, nine-are-words, decimal-is-a-word}
+use Rattle.printed.specs.Words.{ascii, decimalIn, decimal, ending, refusal, FILE, WITHDRAW, ROUTE, ACTION}
+use Rattle.printed.proofs.WordsSpelled.{OneLine, line-feed-last, nine-are-words, decimal-is-a-word}
 use Rattle.printed.specs.Told.{told, foundTold}
-use Rattle.printed.proofs.AnswersSpelled.{told-in-words, found-in-words}
+use Rattle.printed.proofs.AnswersSpelled.{refusal-in-words, told-in-words, found-in-words}
 use Rattle.book.specs.declared.Book.{Book}
 use Rattle.book.specs.declared.Kept.{Kept}
-use Rattle.book.specs.declared.Answer.{Answer}
 use Rattle.book.specs.Entries.{Files, Withdraws}
 use Rattle.book.proofs.Once.{files-once, withdraws-once}
 use Rattle.notices.specs.declared.Notice.{Notice}
@@ -47,12 +46,13 @@ module _ (n : ℕ) (b after : Book) (text : List ℕ) where
       let e = route-once b s d (l .0) r (l .1) f in
       (l .2 ∙ ap (routeLine n s d) e, l .3)
 
+  -- the line of a part is that of the action that it holds
+  pub line-by-action : (part : List ℕ) (a : Action) → ReadsAction part a → LineAt n b part text after → LineOf n b a text after
+  line-by-action part a reads l = rw (action-once part (l .action) a (l .reads) reads) at (l .tells)
+
   refused-line : (part : List ℕ) → ReadsAction part (Action.Refused Refusal.Layout) → LineAt n b part text after → (text ≡ ascii "ACTION REFUSED 2\n") × (after ≡ b)
   unfolding decimalIn
-  refused-line part r l =
-      let e = action-once part (l .action) (Action.Refused Refusal.Layout) (l .reads) r in
-      let w : LineOf n b (Action.Refused Refusal.Layout) text after = rw e at (l .tells) in
-      w
+  refused-line part r l = line-by-action part (Action.Refused Refusal.Layout) r l
 
   -- "Check 2 comes before the entry's own.": over any book, ten bytes that no action has print this and leave the book
   pub fault-first : (part : List ℕ) → length part ≡ 10 → ((i : ℕ) → getD part i 0 < 256) → ((a : Action) → IsAction a → bytesOf a ≡ part → ⊥)
@@ -64,16 +64,12 @@ module _ (n : ℕ) (b after : Book) (text : List ℕ) where
   fault-before-number-0 l = refused-line (1 ∷ 0 ∷ 0 ∷ 1 ∷ 0 ∷ 0 ∷ 1 ∷ 0 ∷ 3 ∷ 4 ∷ []) (action-refuses (later refl (here refl refl))) l
 
   -- "LF at each end", and nowhere else in a line
-  pub line-ends : (a : Action) → LineOf n b a text after → (before : List ℕ) × Within 32 126 before × (text ≡ before ++ ascii "\n")
+  pub line-ends : (a : Action) → LineOf n b a text after → OneLine text
   line-ends (Action.File x) l =
-      let w = line-feed-last FILE (decimal (x .number) ∷ told (l .0 .answer)) (nine-are-words .1 .0) (decimal-is-a-word (x .number), told-in-words (l .0 .answer)) in
-      (w .0, w .1, l .2 ∙ w .2)
+      rw (l .2) (line-feed-last FILE (decimal (x .number) ∷ told (l .0 .answer)) (nine-are-words .1 .0) (decimal-is-a-word (x .number), told-in-words (l .0 .answer)))
   line-ends (Action.Withdraw k) l =
-      let w = line-feed-last WITHDRAW (decimal k ∷ told (l .0 .answer)) (nine-are-words .1 .1 .0) (decimal-is-a-word k, told-in-words (l .0 .answer)) in
-      (w .0, w .1, l .2 ∙ w .2)
+      rw (l .2) (line-feed-last WITHDRAW (decimal k ∷ told (l .0 .answer)) (nine-are-words .1 .1 .0) (decimal-is-a-word k, told-in-words (l .0 .answer)))
   line-ends (Action.Route s d) l =
-      let w = line-feed-last ROUTE (decimal s ∷ decimal d ∷ foundTold n (l .0)) (nine-are-words .1 .1 .1 .0) (decimal-is-a-word s, (decimal-is-a-word d, found-in-words n (l .0))) in
-      (w .0, w .1, l .2 ∙ w .2)
-  line-ends (Action.Refused why) l =
-      let w = line-feed-last ACTION (told (Answer.Refused why)) (nine-are-words .1 .1 .1 .1 .0) (told-in-words (Answer.Refused why)) in
-      (w .0, w .1, l .0 ∙ w .2)
+      rw (l .2)
+      (line-feed-last ROUTE (decimal s ∷ decimal d ∷ foundTold n (l .0)) (nine-are-words .1 .1 .1 .0) (decimal-is-a-word s, (decimal-is-a-word d, found-in-words n (l .0))))
+  line-ends (Action.Refused why) l = rw (l .0) (line-feed-last ACTION (refusal why) (nine-are-words .1 .1 .1 .1 .0) (refusal-in-words why))

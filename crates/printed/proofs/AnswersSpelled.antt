@@ -4,7 +4,7 @@ use mathlib.Core.List.{_++_}
 use Prim.Native.Nat.{ℕ}
 use Rattle.table.specs.declared.Refusal.{Refusal}
 use Rattle.table.specs.Numbers.{numberOf}
-use Rattle.printed.specs.Words.{ascii, decimal, tagBits, ending}
+use Rattle.printed.specs.Words.{ascii, decimal, tagBits, ending, refusal}
 use Rattle.printed.proofs.WordsSpelled.{Words, nine-are-words, decimal-is-a-word, bits-are-a-word}
 use Rattle.book.specs.declared.Answer.{Answer}
 use Rattle.routes.specs.declared.Found.{Found}
@@ -24,14 +24,14 @@ pub found-spelled : (n : ℕ)
 found-spelled n = ((λ tag. refl), (λ stage. refl), (λ why. refl))
 
 -- what an answer prints is words: no blank or LF is in any of them
-refused-words : (why : Refusal) → Words (told (Answer.Refused why))
-refused-words why = (nine-are-words .1 .1 .1 .1 .1 .1 .0, (decimal-is-a-word (numberOf why), tt))
+pub refusal-in-words : (why : Refusal) → Words (refusal why)
+refusal-in-words why = (nine-are-words .1 .1 .1 .1 .1 .1 .0, (decimal-is-a-word (numberOf why), tt))
 
 pub told-in-words : (answer : Answer) → Words (told answer)
 told-in-words Answer.Done = (nine-are-words .1 .1 .1 .1 .1 .0, tt)
-told-in-words (Answer.Refused why) = refused-words why
+told-in-words (Answer.Refused why) = refusal-in-words why
 
 pub found-in-words : (n : ℕ) (answer : Found) → Words (foundTold n answer)
 found-in-words n (Found.Tag tag) = (nine-are-words .1 .1 .1 .1 .1 .1 .1 .0, (bits-are-a-word n tag, tt))
 found-in-words n (Found.None stage) = (nine-are-words .1 .1 .1 .1 .1 .1 .1 .1 .0, (decimal-is-a-word stage, tt))
-found-in-words n (Found.Refused why) = refused-words why
+found-in-words n (Found.Refused why) = refusal-in-words why

@@ -14,6 +14,7 @@ use Rattle.book.specs.declared.Book.{Book}
 use Rattle.book.specs.declared.Kept.{Kept}
 use Rattle.book.proofs.Once.{opens-once}
 use Rattle.sheet.specs.declared.Header.{Header}
+use Rattle.sheet.specs.Entries.{ReadsHeader}
 use Rattle.sheet.proofs.Sheets.{header-once}
 use Rattle.printed.proofs.LineOnce.{line-at-once}
 use Rattle.printed.specs.declared.Ran.{Ran}
@@ -57,8 +58,10 @@ runs-by-once sheet h before q r x y v w = go (given-or-passed (runChecks h befor
           a .3 ∙ ap (λ (t : List ℕ). t ++ drop (length t) before) e ∙ sym (b .3),
         )
 
+-- a run is by the header that its sheet has
+pub run-by-header : (sheet : List ℕ) (h : Header) (before : List ℕ) (r : Ran) (after : List ℕ) → ReadsHeader sheet h → Runs sheet before r after → RunsBy sheet h before r after
+run-by-header sheet h before r after reads w = rw (header-once sheet (w .header) h (w .reads) reads) at (w .runs)
+
 -- a run has one answer, and leaves the lent memory in one way
 pub run-once : (sheet before : List ℕ) (q r : Ran) (x y : List ℕ) → Runs sheet before q x → Runs sheet before r y → (q ≡ r) × (x ≡ y)
-run-once sheet before q r x y v w =
-    let e = header-once sheet (v .header) (w .header) (v .reads) (w .reads) in
-    runs-by-once sheet (w .header) before q r x y (rw e at (v .runs)) (w .runs)
+run-once sheet before q r x y v w = runs-by-once sheet (w .header) before q r x y (run-by-header sheet (w .header) before q x (w .reads) v) (w .runs)

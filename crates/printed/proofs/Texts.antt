@@ -22,7 +22,7 @@ use Rattle.book.proofs.Changes.{standing-of}
 use Rattle.book.proofs.Reach.{opened-is}
 use Rattle.sheet.specs.declared.Header.{Header}
 use Rattle.sheet.specs.Entries.{partOf}
-use Rattle.printed.specs.Words.{decimal}
+use Rattle.printed.specs.Words.{ascii, decimal}
 use Rattle.printed.specs.Text.{sheetLine}
 use Rattle.printed.specs.Lines.{LineAt}
 use Rattle.printed.specs.declared.Ran.{Ran}
@@ -67,12 +67,12 @@ front-and-rest sheet h before bytes after w =
 
 -- "SHEET REFUSED k"
 pub refused-text : (sheet : List ℕ) (why : Refusal) (text : List ℕ) → Prints sheet (Header.Refused why) text
-    → text ≡ 83 ∷ 72 ∷ 69 ∷ 69 ∷ 84 ∷ 32 ∷ 82 ∷ 69 ∷ 70 ∷ 85 ∷ 83 ∷ 69 ∷ 68 ∷ 32 ∷ decimal (numberOf why) ++ 10 ∷ []
+    → text ≡ ascii "SHEET REFUSED " ++ decimal (numberOf why) ++ ascii "\n"
 refused-text sheet why text p = p
 
 -- "SHEET n count", and the lines of as many actions
 pub first-line : (sheet : List ℕ) (n count : ℕ) (text : List ℕ) → Prints sheet (Header.Sheet n count) text
-    → (lines : List ℕ) × (b : Book) × Lines sheet n count lines b × (text ≡ (83 ∷ 72 ∷ 69 ∷ 69 ∷ 84 ∷ 32 ∷ (decimal n ++ 32 ∷ (decimal count ++ 10 ∷ []))) ++ lines)
+    → (lines : List ℕ) × (b : Book) × Lines sheet n count lines b × (text ≡ ascii "SHEET " ++ (decimal n ++ (ascii " " ++ (decimal count ++ ascii "\n"))) ++ lines)
 first-line sheet n count text p = p
 
 -- "starting from an empty book"

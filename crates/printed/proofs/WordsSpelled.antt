@@ -96,15 +96,21 @@ letters-of-words (w ∷ ws) e =
 pub nine-are-words : Words (SHEET ∷ FILE ∷ WITHDRAW ∷ ROUTE ∷ ACTION ∷ OK ∷ REFUSED ∷ TAG ∷ NONE ∷ [])
 nine-are-words = letters-of-words (SHEET ∷ FILE ∷ WITHDRAW ∷ ROUTE ∷ ACTION ∷ OK ∷ REFUSED ∷ TAG ∷ NONE ∷ []) refl
 
--- "LF at each end", and nowhere else
-pub line-feed-last : (w : List ℕ) (ws : List (List ℕ)) → Word w → Words ws → (before : List ℕ) × Within 32 126 before × (line w ws ≡ before ++ ascii "\n")
-line-feed-last w [] v vs = (w, wider 33 126 32 126 (omega arith) (omega arith) w v, refl)
+-- one line: "LF at each end", and nowhere else
+pub record OneLine (text : List ℕ) : Type 0 where
+  pub before : List ℕ
+  pub plain : Within 32 126 before
+  pub closed : text ≡ before ++ ascii "\n"
+
+pub line-feed-last : (w : List ℕ) (ws : List (List ℕ)) → Word w → Words ws → OneLine (line w ws)
+line-feed-last w [] v vs = record { before = w; plain = wider 33 126 32 126 (omega arith) (omega arith) w v; closed = refl }
 line-feed-last w (x ∷ xs) v vs =
-    let on = line-feed-last x xs (vs .0) (vs .1) in (
-      w ++ 32 ∷ on .0,
-      within-both 32 126 w (32 ∷ on .0) (wider 33 126 32 126 (omega arith) (omega arith) w v) (omega arith, omega arith, on .1),
-      ap (λ (l : List ℕ). w ++ 32 ∷ l) (on .2) ∙ sym (append-assoc w (32 ∷ on .0) (ascii "\n")),
-    )
+    let on = line-feed-last x xs (vs .0) (vs .1) in
+    record {
+      before = w ++ 32 ∷ on .before;
+      plain = within-both 32 126 w (32 ∷ on .before) (wider 33 126 32 126 (omega arith) (omega arith) w v) (omega arith, omega arith, on .plain);
+      closed = ap (λ (l : List ℕ). w ++ 32 ∷ l) (on .closed) ∙ sym (append-assoc w (32 ∷ on .before) (ascii "\n"));
+    }
 
 pub refusal-spelled : (why : Refusal) → ending (refusal why) ≡ ascii " REFUSED " ++ decimal (numberOf why) ++ ascii "\n"
 refusal-spelled why = refl

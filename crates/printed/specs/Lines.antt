@@ -19,8 +19,8 @@ LineOf n b (Action.Withdraw k) text after = (r : Kept) × Withdraws b k r × (te
 LineOf n b (Action.Route s d) text after = (r : Found) × Routes b s d r × (text ≡ routeLine n s d r) × (after ≡ b)
 LineOf n b (Action.Refused why) text after = (text ≡ faultLine why) × (after ≡ b)
 
--- the line of a part of a sheet, as the action reader reads it. "Check 2 comes before the entry's own.": `fault-first`,
--- `fault-before-number-0`
+-- the line of a part of a sheet, as the action reader reads it (`line-by-action`). "Check 2 comes before the entry's own.":
+-- `fault-first`, `fault-before-number-0`
 pub record LineAt (n : ℕ) (b : Book) (part text : List ℕ) (after : Book) : Type 0 where
   pub action : Action
   pub reads : ReadsAction part action

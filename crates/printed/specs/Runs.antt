@@ -27,10 +27,16 @@ abbrev pub Prints : List ℕ → Header → List ℕ → Type 0
 Prints sheet (Header.Sheet n count) text = (lines : List ℕ) × (b : Book) × Lines sheet n count lines b × (text ≡ sheetLine n count ++ lines)
 Prints sheet (Header.Refused why) text = text ≡ refusedSheet why
 
--- the room that a run asks for, whatever it prints: 24 bytes for the first line and 48 for each action (`room-grows`)
+-- the room that a run asks for, whatever it prints: so many bytes for the first line, and so many for each action (`room-grows`)
+abbrev pub firstLineRoom : ℕ
+firstLineRoom = 24
+
+abbrev pub actionRoom : ℕ
+actionRoom = 48
+
 abbrev pub room : Header → ℕ
-room (Header.Sheet n count) = 24 + 48 * count
-room (Header.Refused why) = 24
+room (Header.Sheet n count) = firstLineRoom + actionRoom * count
+room (Header.Refused why) = firstLineRoom
 
 -- 13: "lent memory too short" (`run-order`, `thirteen-exactly`)
 abbrev pub runChecks : Header → List ℕ → List Check
@@ -52,6 +58,7 @@ pub record RunsBy (sheet : List ℕ) (header : Header) (before : List ℕ) (answ
   pub refuses : (k : ℕ) → Given k (runChecks header before) → (ranSays answer ≡ refused k) × (after ≡ before)
   pub prints : Passed (runChecks header before) → Printed sheet header before answer after
 
+-- the sheet's own header says which (`run-by-header`)
 pub record Runs (sheet before : List ℕ) (answer : Ran) (after : List ℕ) : Type 0 where
   pub header : Header
   pub reads : ReadsHeader sheet header

@@ -2,7 +2,7 @@
 use mathlib.Core.List.{List}
 use Prim.Native.Nat.{ℕ, _+_, _*_, _≤_}
 use Rattle.book.specs.declared.Book.{Book}
-use Rattle.printed.specs.Runs.{Lines}
+use Rattle.printed.specs.Runs.{Lines, actionRoom}
 use Rattle.words.specs.Wrote.{Wrote}
 
 -- the lines of a sheet were written at a place
@@ -10,4 +10,4 @@ pub record LinesWritten (sheet : List ℕ) (n count : ℕ) (before : List ℕ) (
   pub text : List ℕ
   pub tells : Lines sheet n count text b
   pub wrote : Wrote before at text after next
-  pub short : next ≤ at + 48 * count
+  pub short : next ≤ at + actionRoom * count

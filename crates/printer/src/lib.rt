@@ -1,6 +1,8 @@
 // Document 01, 'The sheet and what is printed': running a sheet, from its bytes to the bytes printed.
 use book::Book;
 use lines::action_line;
+use printed::ACTION_ROOM;
+use printed::FIRST_LINE_ROOM;
 use printed::Ran;
 use sheet::Header;
 use table::Refusal;
@@ -12,10 +14,10 @@ ghost use mathlib.Core.List.{List};
 ghost use lib.ListN.{length};
 ghost use Rattle.printed.specs.Text.{sheetLine};
 ghost use Rattle.words.specs.Wrote.{Wrote};
-ghost use Rattle.printed.specs.Runs.{RunsBy, Runs};
+ghost use Rattle.printed.specs.Runs.{firstLineRoom, actionRoom, RunsBy, Runs};
 ghost use Rattle.printer.specs.Written.{LinesWritten};
 
-// Prints what running a sheet prints, at the front of the memory. It asks for 24 bytes and 48 for each action.
+// Prints what running a sheet prints, at the front of the memory.
 pub fn run(sheet: &[u8], out: &mut [u8]) -> Ran
     ensures { λ r. ⌜ Runs (now (sheet .entry)) (now (out .entry)) r (now (out .exit)) ⌝ }
 {
@@ -29,7 +31,7 @@ pub fn run(sheet: &[u8], out: &mut [u8]) -> Ran
 fn refused_sheet(why: Refusal, out: &mut [u8]) -> Ran
     ensures { λ r. ⌜ ((sheet : List ℕ) → RunsBy sheet (Header.Refused why) (now (out .entry)) r (now (out .exit))) ⌝ }
 {
-    if out.len() < 24 {
+    if out.len() < FIRST_LINE_ROOM {
         return Ran::Refused(Refusal::Room);
     }
     let mid = word(out, 0, b"SHEET");
@@ -40,7 +42,7 @@ fn whole_sheet(sheet: &[u8], n: u8, count: u16, out: &mut [u8]) -> Ran
     requires { ⌜ n ≤ 12 ⌝ }
     ensures { λ r. ⌜ RunsBy (now (sheet .entry)) (Header.Sheet n count) (now (out .entry)) r (now (out .exit)) ⌝ }
 {
-    if out.len() < 24 + 48 * count as usize {
+    if out.len() < FIRST_LINE_ROOM + ACTION_ROOM * count as usize {
         return Ran::Refused(Refusal::Room);
     }
     let at = sheet_line(n, count, out);
@@ -49,8 +51,8 @@ fn whole_sheet(sheet: &[u8], n: u8, count: u16, out: &mut [u8]) -> Ran
 
 // "First line: `SHEET n count`"
 fn sheet_line(n: u8, count: u16, out: &mut [u8]) -> usize
-    requires { ⌜ 24 ≤ length (now out) ⌝ }
-    ensures { λ r. ⌜ (Wrote (now (out .entry)) 0 (sheetLine n count) (now (out .exit)) r) × (r ≤ 24) ⌝ }
+    requires { ⌜ firstLineRoom ≤ length (now out) ⌝ }
+    ensures { λ r. ⌜ (Wrote (now (out .entry)) 0 (sheetLine n count) (now (out .exit)) r) × (r ≤ firstLineRoom) ⌝ }
 {
     let first = word(out, 0, b"SHEET ");
     let between = number(out, first, n as u16);
@@ -61,18 +63,16 @@ fn sheet_line(n: u8, count: u16, out: &mut [u8]) -> usize
 
 // "Then a line per action", starting from an empty book.
 fn lines(sheet: &[u8], n: u8, count: u16, out: &mut [u8], at: usize) -> usize
-    requires { ⌜ (n ≤ 12) × (at + 48 * count ≤ length (now out)) ⌝ }
+    requires { ⌜ (n ≤ 12) × (at + actionRoom * count ≤ length (now out)) ⌝ }
     ensures { λ r. ⌜ ((b : Book) × LinesWritten (now (sheet .entry)) n count (now (out .entry)) at (now (out .exit)) r b) ⌝ }
 {
-    let opened = Book::open(n);
-    let mut book = opened.book;
+    let mut book = Book::open(n).book;
     let mut next = at;
     let mut k: usize = 0;
     while k < count as usize {
         let part = sheet_reader::action_part(sheet, k);
         let told = action_line(n, book, part, out, next);
-        let after = told.book;
-        book = after;
+        book = told.book;
         next = told.at;
         k += 1;
     }

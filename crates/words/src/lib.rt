@@ -2,6 +2,7 @@
 // place after them.
 use table::Refusal;
 ghost use mathlib.Core.Path.{_≡_};
+ghost use mathlib.Core.List.{[], _++_};
 ghost use Prim.Native.Nat.{_+_, _≤_};
 ghost use lib.ListN.{length};
 ghost use Rattle.printed.specs.Words.{decimal, bitsFrom, ending, refusal};
@@ -53,12 +54,20 @@ pub fn bits(out: &mut [u8], at: usize, count: u8, x: u32) -> usize
     at + count as usize
 }
 
+// The end of a line: a word with its blanks, a number and LF.
+pub fn number_told(out: &mut [u8], at: usize, name: &[u8], x: u16) -> usize
+    requires { ⌜ at + length (now name) + 6 ≤ length (now out) ⌝ }
+    ensures { λ r. ⌜ (Wrote (now (out .entry)) at (now (name .entry) ++ (decimal x ++ ending [])) (now (out .exit)) r) × (r ≤ at + length (now (name .entry)) + 6) ⌝ }
+{
+    let mid = word(out, at, name);
+    let end = number(out, mid, x);
+    word(out, end, b"\n")
+}
+
 // "`REFUSED` and the table number"
 pub fn refusal_told(out: &mut [u8], at: usize, why: Refusal) -> usize
     requires { ⌜ at + 15 ≤ length (now out) ⌝ }
     ensures { λ r. ⌜ (Wrote (now (out .entry)) at (ending (refusal why)) (now (out .exit)) r) × (r ≤ at + 15) ⌝ }
 {
-    let mid = word(out, at, b" REFUSED ");
-    let end = number(out, mid, table::number(why) as u16);
-    word(out, end, b"\n")
+    number_told(out, at, b" REFUSED ", table::number(why) as u16)
 }

@@ -13,8 +13,14 @@ tag-told-requires c κs = search needs
 enum-known-answer-2 : tie.Need-enum-known-answer-2
 enum-known-answer-2 c = search needs
 
-stage-told-requires : tie.Need-stage-told-requires
-stage-told-requires c κs = search needs
+slice-aggregate-number-told : tie.Need-slice-aggregate-number-told
+slice-aggregate-number-told c = search needs
+
+cast-number-told : tie.Need-cast-number-told
+cast-number-told c = search needs
+
+number-told-requires : tie.Need-number-told-requires
+number-told-requires c κs = search needs
 
 enum-known-answer-3 : tie.Need-enum-known-answer-3
 enum-known-answer-3 c = search needs
@@ -35,8 +41,9 @@ same-length-2 c = search needs
 
 returns-2 : tie.Need-returns-2
 returns-2 c =
-    let w = c .before .before .stage-told in
-    (rw (c .before .before .before .before .before .answer2 .given .1) (w .ensures .0 (c .before .before .before .before .before .before .before .before .args .n)), w .ensures .1)
+    let w = c .before .before .number-told in
+    let short = w .ensures .1 in
+    (rw (c .before .before .before .before .before .before .answer2 .given .1) (w .ensures .0), omega arith)
 
 same-length-3 : tie.Need-same-length-3
 same-length-3 c = search needs
@@ -44,7 +51,7 @@ same-length-3 c = search needs
 returns-3 : tie.Need-returns-3
 returns-3 c =
     let w = c .before .before .refusal-told in
-    let e = w .ensures .1 in
+    let short = w .ensures .1 in
     (rw (c .before .before .before .before .before .answer3 .given .1) (w .ensures .0), omega arith)
 
 pub found-told-spec : {M : Type 1} → statement M
@@ -54,7 +61,9 @@ found-told-spec =
     enum-known-answer
     tag-told-requires
     enum-known-answer-2
-    stage-told-requires
+    slice-aggregate-number-told
+    cast-number-told
+    number-told-requires
     enum-known-answer-3
     refusal-told-requires
     same-length

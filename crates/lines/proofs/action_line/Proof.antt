@@ -1,6 +1,6 @@
 -- The line of each action, as the action reader reads it.
 use borrow.Author.Needs.{needs}
-use Rattle.lines.proofs.Reading.{line-read}
+use Rattle.lines.proofs.Reading.{line-read, line-filed, line-withdrawn}
 use Rattle.lines.proofs.action_line.Statement.{statement}
 use Rattle.lines.proofs.action_line.Tie as tie
 
@@ -10,14 +10,26 @@ read-action-requires c κs = search needs
 enum-known-notice : tie.Need-enum-known-notice
 enum-known-notice c = search needs
 
-file-line-requires : tie.Need-file-line-requires
-file-line-requires c κs = search needs
+slice-aggregate-notice-line : tie.Need-slice-aggregate-notice-line
+slice-aggregate-notice-line c = search needs
+
+file-requires : tie.Need-file-requires
+file-requires c κs = search needs
+
+notice-line-requires : tie.Need-notice-line-requires
+notice-line-requires c κs = search needs
 
 enum-known-k : tie.Need-enum-known-k
 enum-known-k c = search needs
 
-withdraw-line-requires : tie.Need-withdraw-line-requires
-withdraw-line-requires c κs = search needs
+slice-aggregate-notice-line-2 : tie.Need-slice-aggregate-notice-line-2
+slice-aggregate-notice-line-2 c = search needs
+
+withdraw-requires : tie.Need-withdraw-requires
+withdraw-requires c κs = search needs
+
+notice-line-requires-2 : tie.Need-notice-line-requires-2
+notice-line-requires-2 c κs = search needs
 
 enum-known-source : tie.Need-enum-known-source
 enum-known-source c = search needs
@@ -35,13 +47,13 @@ same-length : tie.Need-same-length
 same-length c = search needs
 
 returns : tie.Need-returns
-returns c = line-read (c .before .before .before .before .before .before .before .read-action .ensures) (c .before .before .before .before .before .notice .given .1) (c .before .before .file-line .ensures (c .before .before .before .before .before .before .before .before .before .before .args .n))
+returns c = line-read (c .before .before .before .before .before .before .before .before .before .read-action .ensures) (c .before .before .before .before .before .before .before .notice .given .1) (line-filed (c .before .before .before .before .file .ensures) (c .before .before .notice-line .ensures))
 
 same-length-2 : tie.Need-same-length-2
 same-length-2 c = search needs
 
 returns-2 : tie.Need-returns-2
-returns-2 c = line-read (c .before .before .before .before .before .before .before .read-action .ensures) (c .before .before .before .before .before .k .given .1) (c .before .before .withdraw-line .ensures (c .before .before .before .before .before .before .before .before .before .before .args .n))
+returns-2 c = line-read (c .before .before .before .before .before .before .before .before .before .read-action .ensures) (c .before .before .before .before .before .before .before .k .given .1) (line-withdrawn (c .before .before .before .before .withdraw .ensures) (c .before .before .notice-line2 .ensures))
 
 same-length-3 : tie.Need-same-length-3
 same-length-3 c = search needs
@@ -61,9 +73,13 @@ action-line-spec =
     (tie.spec
     read-action-requires
     enum-known-notice
-    file-line-requires
+    slice-aggregate-notice-line
+    file-requires
+    notice-line-requires
     enum-known-k
-    withdraw-line-requires
+    slice-aggregate-notice-line-2
+    withdraw-requires
+    notice-line-requires-2
     enum-known-source
     route-line-requires
     enum-known-why
