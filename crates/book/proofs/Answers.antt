@@ -18,7 +18,7 @@ use Rattle.book.specs.declared.Answer.{Answer}
 use Rattle.book.specs.declared.Link.{Link}
 use Rattle.book.specs.Standing.{standing, stopper, Sound}
 use Rattle.book.specs.Entries.{answerSays, HandsBack, linkChecks, Tests}
-use Rattle.book.proofs.Placing.{length-standing}
+use Rattle.book.proofs.Filings.{length-standing}
 
 module _ (checks : List Check) (given made : Book) (r : Kept) where
   pub hands-back-refused : (why : Refusal) → r .book ≡ given → r .answer ≡ Answer.Refused why → Given (numberOf why) checks → HandsBack checks given made r

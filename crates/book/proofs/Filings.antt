@@ -1,11 +1,11 @@
 -- A book that passes the test of 16.
-use mathlib.Core.Path.{_≡_, ap, _∙_}
+use mathlib.Core.Path.{_≡_, sym, ap, _∙_}
 use mathlib.Core.Bool.{false, _||_}
-use mathlib.Core.List.{List, [], _∷_}
+use mathlib.Core.List.{List, [], _∷_, _++_}
 use Prim.Native.Nat.{ℕ, zero, suc, _-_, _<_}
 use native.Mathlib.Omega.{arith}
 use borrow.Author.Tests.{ltb-false, le-ltb}
-use lib.ListN.{length, getD, replicate, length-drop}
+use lib.ListN.{length, getD, replicate, length-drop, take-append-drop}
 use lib.Seq.{length-take-le, getD-take}
 use Rattle.table.proofs.Checks.{neither, neither-of}
 use Rattle.table.specs.Checks.{_below_}
@@ -42,6 +42,14 @@ sound-passes b s =
     (le-ltb 48 (b .count) (s .fits)))
     (filed-passes (b .n) 0 (standing b) (s .filed)))
     (ap littered (s .rest) ∙ filler-unlittered (48 - b .count))
+
+-- as many stand as such a book counts
+pub length-standing : (b : Book) → Sound b → length (b .notices) ≡ 48 → length (standing b) ≡ b .count
+length-standing b sound full = let h = sound .fits in length-take-le (b .count) (b .notices) (omega arith)
+
+-- what stands, and unused places after it
+pub split : (b : Book) → Sound b → b .notices ≡ standing b ++ replicate (48 - b .count) filler
+split b sound = sym (take-append-drop (b .count) (b .notices)) ∙ ap (λ (r : List Notice). standing b ++ r) (sound .rest)
 
 -- the numbers of a list by rising number, by their places
 above-at : (n k : ℕ) (l : List Notice) → Filed n k l → (j : ℕ) → j < length l → k < getD l j filler .number

@@ -21,7 +21,7 @@ use Rattle.book.specs.Standing.{standing, bookOf, unsound}
 use Rattle.book.specs.Entries.{openChecks, opened, fileChecks}
 use Rattle.book.specs.Runs.{Change, after, Accepted, run, AllAccepted, Reachable}
 use Rattle.book.proofs.Filings.{sound-if}
-use Rattle.book.proofs.Placing.{length-standing}
+use Rattle.book.proofs.Filings.{length-standing}
 use Rattle.book.proofs.Sounds.{size-passes, whole}
 use Rattle.standing.proofs.Members.{Within, all-above, all-fit, one-number, filed-distinct, stands-member, insert-filed, insert-length, insert-member, insert-has, insert-keeps, within-length, same-notices}
 use Rattle.book.proofs.Changes.{standing-of, sound-of, Good, good-of, good-after, taken}

@@ -16,7 +16,7 @@ use Rattle.book.specs.declared.Kept.{Kept}
 use Rattle.book.specs.Standing.{standing, bookOf, Sound}
 use Rattle.book.specs.Entries.{Opens, Files, Withdraws}
 use Rattle.book.specs.Runs.{Change, after}
-use Rattle.book.proofs.Placing.{length-standing, split}
+use Rattle.book.proofs.Filings.{length-standing, split}
 use Rattle.book.proofs.Changes.{standing-of, good-after}
 
 -- the sizes of 01, as the test of them says
@@ -28,7 +28,7 @@ pub whole : (b : Book) → Sound b → length (b .notices) ≡ 48 → bookOf (b 
 whole b sound places =
     let l = length-standing b sound places in
     ap₂ (λ (c : ℕ) (ns : List Notice). record { n = b .n; count = c; notices = ns }) l
-    (ap (λ (k : ℕ). standing b ++ replicate (48 - k) filler) l ∙ sym (split b sound places))
+    (ap (λ (k : ℕ). standing b ++ replicate (48 - k) filler) l ∙ sym (split b sound))
 
 sound-book : (n : ℕ) (l : List Notice) → 1 ≤ n → n ≤ 12 → Filed n 0 l → length l ≤ 48 → Sound (bookOf n l)
 sound-book n l some few filed fits =

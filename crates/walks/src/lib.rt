@@ -22,7 +22,7 @@ pub enum Ended {
 pub fn walk(book: Book, source: u16, tag: u32) -> Ended
     ensures { λ r. ⌜ Walks book source tag r ⌝ }
 {
-    if book::unsound(book) {
+    if bookkeeping::unsound(book) {
         return Ended::Refused(Refusal::Book);
     }
     walked(book, source, tag)
@@ -56,7 +56,7 @@ fn along(book: Book, source: u16, tag: u32) -> Ended
             break end_at(n, j, tag);
         }
         let code = scheme::step_of(n, tag, i, j);
-        if book::stopper(book, i, j, code) != 0 {
+        if bookkeeping::stopper(book, i, j, code) != 0 {
             break Ended::Stopped(i);
         }
         j = fabric::landing(n, i, code, j);
