@@ -8,8 +8,8 @@ use words::word;
 ghost use Prim.Native.Nat.{_+_, _≤_};
 ghost use lib.ListN.{length};
 ghost use Rattle.printed.specs.Words.{ending};
-ghost use Rattle.words.specs.Wrote.{Wrote};
 ghost use Rattle.printed.specs.Told.{told, foundTold};
+ghost use Rattle.words.specs.Wrote.{Wrote};
 
 // "`OK`, or `REFUSED` and the table number"
 pub fn answer_told(out: &mut [u8], at: usize, answer: Answer) -> usize

@@ -1,6 +1,7 @@
 // Runs many sheets and writes what each prints, with an empty line after it. The sheets lie one after the other on standard
 // input, each after its length in two bytes; sheets.txt says what they are. Then a sheet is run into memory that is too short.
 use libc::STDIN_FILENO;
+use printed::MOST_ROOM;
 use printed::Ran;
 use table::Refusal;
 ghost use Prim.Native.Nat.{_+_, _≤_, _<_};
@@ -39,7 +40,7 @@ fn run_next(sheets: &[u8], at: usize) -> usize
         return all;
     }
     let end = start + bytes;
-    let mut lines = [0u8; 196632];
+    let mut lines = [0u8; MOST_ROOM];
     run(&sheets[start..end], &mut lines);
     end
 }

@@ -1,8 +1,7 @@
 // Document 01, 'The sheet and what is printed': from what was read on standard input to what is written on standard output.
 use actions::ACTION_LENGTH;
 use actions::HEADER_LENGTH;
-use printed::ACTION_ROOM;
-use printed::FIRST_LINE_ROOM;
+use printed::MOST_ROOM;
 use printed::Ran;
 ghost use Prim.Native.Nat.{_≤_};
 ghost use lib.ListN.{length};
@@ -13,7 +12,7 @@ ghost use Rattle.input.specs.Answers.{Within, Answers, Writes};
 pub const INPUT_ROOM: usize = HEADER_LENGTH + ACTION_LENGTH * 4096 + 1;
 
 // Memory for the lines of the longest sheet.
-pub const TEXT_ROOM: usize = FIRST_LINE_ROOM + ACTION_ROOM * 4096;
+pub const TEXT_ROOM: usize = MOST_ROOM;
 
 // What reading the input gives: how many bytes lie at the front of the memory, or that a read failed.
 pub enum Input {

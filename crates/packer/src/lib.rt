@@ -17,7 +17,7 @@ ghost use Rattle.book.specs.Entries.{answerSays, linkSays, listingSays};
 ghost use Rattle.walks.specs.Entries.{walkSays};
 ghost use Rattle.routes.specs.Routed.{routeSays};
 ghost use Rattle.sheet.specs.Entries.{headerSays, thereSays};
-ghost use Rattle.printed.specs.Runs.{ranSays};
+ghost use Rattle.printed.specs.Runs.{mostRoom, ranSays};
 ghost use Rattle.table.specs.Numbers.{numberOf};
 ghost use Rattle.packing.specs.Packed.{packed};
 
@@ -118,7 +118,7 @@ pub fn there_told(answer: There) -> u64
 }
 
 pub fn ran(answer: Ran) -> u64
-    requires { ⌜ ((bytes : ℕ) → answer ≡ Ran.Printed bytes → bytes ≤ 196632) ⌝ }
+    requires { ⌜ ((bytes : ℕ) → answer ≡ Ran.Printed bytes → bytes ≤ mostRoom) ⌝ }
     ensures { λ r. ⌜ r ≡ packed (ranSays answer) ⌝ }
 {
     match answer {

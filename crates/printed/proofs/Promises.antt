@@ -19,7 +19,7 @@ use Rattle.sheet.specs.Entries.{headerChecks, ReadsHeader}
 use Rattle.sheet.proofs.Promises.{header-passed, header-fields}
 use Rattle.printed.specs.declared.Ran.{Ran}
 use Rattle.printed.proofs.Texts.{thirteen-exactly}
-use Rattle.printed.specs.Runs.{Prints, room, runChecks, ranSays, RunsBy, Runs}
+use Rattle.printed.specs.Runs.{Prints, room, mostRoom, runChecks, ranSays, RunsBy, Runs}
 
 -- a header that is accepted has a size that fits
 pub few-stages : {sheet : List ℕ} {h : Header} {n count : ℕ} → ReadsHeader sheet h → h ≡ Header.Sheet n count → n ≤ 12
@@ -53,23 +53,8 @@ pub runs-as : {sheet before after : List ℕ} {r : Ran} {h told : Header}
     → ReadsHeader sheet h → h ≡ told → RunsBy sheet told before r after → Runs sheet before r after
 runs-as {told = told} reads e w = record { header = told; reads = rw e at reads; runs = w }
 
--- what was printed lies within the memory
-pub runs-fit : {sheet before after : List ℕ} {r : Ran} {bytes : ℕ} → Runs sheet before r after → r ≡ Ran.Printed bytes → bytes ≤ length after
-runs-fit {sheet} {before} {after} {r} {bytes} w e = go (given-or-passed (runChecks (w .header) before))
-  where
-    go : ((k : ℕ) × Given k (runChecks (w .header) before)) ⊎ Passed (runChecks (w .header) before) → bytes ≤ length after
-    go (inl g) =
-        let f : accepted (bytes ∷ []) ≡ refused (g .0) = sym (ap ranSays e) ∙ w .runs .refuses (g .0) (g .1) .0 in
-        absurd (zero-one cc)
-    go (inr p) =
-        let q = w .runs .prints p in
-        let f : accepted (bytes ∷ []) ≡ accepted (length (q .0) ∷ []) = sym (ap ranSays e) ∙ q .2 in
-        let b : bytes ≡ length (q .0) = cc in
-        let l : length after ≡ length (q .0) + length (drop (length (q .0)) before) = ap length (q .3) ∙ length-append (q .0) (drop (length (q .0)) before) in
-        omega arith
-
 -- no header that is accepted asks for more room than 4,096 actions do
-pub room-within : {sheet : List ℕ} (h : Header) → ReadsHeader sheet h → room h ≤ 196632
+pub room-within : {sheet : List ℕ} (h : Header) → ReadsHeader sheet h → room h ≤ mostRoom
 room-within {sheet} (Header.Sheet n count) q =
     let l = neither (4096 below countIn sheet) (not (eqb (length sheet) (bytesBefore (countIn sheet)))) (passed-nth (headerChecks sheet) 2 (header-passed q)) .0 in
     let few = ltb-false 4096 (countIn sheet) l in
@@ -77,18 +62,33 @@ room-within {sheet} (Header.Sheet n count) q =
     omega arith
 room-within {sheet} (Header.Refused why) q = omega arith
 
--- so what was printed lies within that room
-pub runs-within : {sheet before after : List ℕ} {r : Ran} {bytes : ℕ} → Runs sheet before r after → r ≡ Ran.Printed bytes → bytes ≤ 196632
-runs-within {sheet} {before} {after} {r} {bytes} w e = go (given-or-passed (runChecks (w .header) before))
-  where
-    go : ((k : ℕ) × Given k (runChecks (w .header) before)) ⊎ Passed (runChecks (w .header) before) → bytes ≤ 196632
-    go (inl g) =
-        let f : accepted (bytes ∷ []) ≡ refused (g .0) = sym (ap ranSays e) ∙ w .runs .refuses (g .0) (g .1) .0 in
-        absurd (zero-one cc)
-    go (inr p) =
-        let q = w .runs .prints p in
-        let f : accepted (bytes ∷ []) ≡ accepted (length (q .0) ∷ []) = sym (ap ranSays e) ∙ q .2 in
-        let b : bytes ≡ length (q .0) = cc in
-        let l = q .4 in
-        let m = room-within (w .header) (w .reads) in
-        omega arith
+-- where bytes were printed they are a text's, at the front of the memory and within the room
+module _ {sheet before after : List ℕ} {r : Ran} {bytes : ℕ} (w : Runs sheet before r after) (e : r ≡ Ran.Printed bytes) where
+  text-printed : (text : List ℕ) × (bytes ≡ length text) × (after ≡ text ++ drop (length text) before) × (length text ≤ room (w .header))
+  text-printed = go (given-or-passed (runChecks (w .header) before))
+    where
+      go : ((k : ℕ) × Given k (runChecks (w .header) before)) ⊎ Passed (runChecks (w .header) before)
+          → (text : List ℕ) × (bytes ≡ length text) × (after ≡ text ++ drop (length text) before) × (length text ≤ room (w .header))
+      go (inl g) =
+          let f : accepted (bytes ∷ []) ≡ refused (g .0) = sym (ap ranSays e) ∙ w .runs .refuses (g .0) (g .1) .0 in
+          absurd (zero-one cc)
+      go (inr p) =
+          let q = w .runs .prints p in
+          let f : accepted (bytes ∷ []) ≡ accepted (length (q .0) ∷ []) = sym (ap ranSays e) ∙ q .2 in
+          (q .0, cc, q .3, q .4)
+
+  -- what was printed lies within the memory
+  pub runs-fit : bytes ≤ length after
+  runs-fit =
+      let text = text-printed .0 in
+      let b : bytes ≡ length text = text-printed .1 in
+      let l : length after ≡ length text + length (drop (length text) before) = ap length (text-printed .2) ∙ length-append text (drop (length text) before) in
+      omega arith
+
+  -- and within the room for 4,096 actions
+  pub runs-within : bytes ≤ mostRoom
+  runs-within =
+      let b = text-printed .1 in
+      let l = text-printed .3 in
+      let m = room-within (w .header) (w .reads) in
+      omega arith

@@ -38,6 +38,10 @@ abbrev pub room : Header → ℕ
 room (Header.Sheet n count) = firstLineRoom + actionRoom * count
 room (Header.Refused why) = firstLineRoom
 
+-- "action count above 4,096" is refused, so no run asks for more than this: `room-within`
+abbrev pub mostRoom : ℕ
+mostRoom = firstLineRoom + actionRoom * 4096
+
 -- 13: "lent memory too short" (`run-order`, `thirteen-exactly`)
 abbrev pub runChecks : Header → List ℕ → List Check
 runChecks header memory = (13 when length memory below room header) ∷ []

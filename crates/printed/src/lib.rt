@@ -7,6 +7,9 @@ pub const FIRST_LINE_ROOM: usize = 24;
 
 pub const ACTION_ROOM: usize = 48;
 
+// The most that a run asks for: the room for 4,096 actions.
+pub const MOST_ROOM: usize = FIRST_LINE_ROOM + ACTION_ROOM * 4096;
+
 // What a run answers: how many bytes it wrote.
 pub enum Ran {
     Printed(usize),

@@ -7,14 +7,15 @@ use printed::Ran;
 use sheet::Header;
 use table::Refusal;
 use words::number;
+use words::number_told;
 use words::refusal_told;
 use words::word;
 ghost use Prim.Native.Nat.{ℕ, _+_, _*_, _≤_};
 ghost use mathlib.Core.List.{List};
 ghost use lib.ListN.{length};
 ghost use Rattle.printed.specs.Text.{sheetLine};
-ghost use Rattle.words.specs.Wrote.{Wrote};
 ghost use Rattle.printed.specs.Runs.{firstLineRoom, actionRoom, RunsBy, Runs};
+ghost use Rattle.words.specs.Wrote.{Wrote};
 ghost use Rattle.printer.specs.Written.{LinesWritten};
 
 // Prints what running a sheet prints, at the front of the memory.
@@ -56,9 +57,7 @@ fn sheet_line(n: u8, count: u16, out: &mut [u8]) -> usize
 {
     let first = word(out, 0, b"SHEET ");
     let between = number(out, first, n as u16);
-    let second = word(out, between, b" ");
-    let end = number(out, second, count);
-    word(out, end, b"\n")
+    number_told(out, between, b" ", count)
 }
 
 // "Then a line per action", starting from an empty book.
