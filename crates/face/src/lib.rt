@@ -192,7 +192,11 @@ pub extern "C" fn tabashfar_walk(sheet: &[u8], source: u16, tag: u32) -> u64
     ensures { λ r. ⌜ OverSheet (now (sheet .entry)) (λ b. Tells (Walks b source tag) walkSays) r ⌝ }
 {
     match sheet_reader::read_header(sheet) {
-        Header::Sheet { n, count } => ended(walks::walked(after_all(sheet, n, count), source, tag)),
+        Header::Sheet { n, count } => ended(walker::walked(
+            after_all(sheet, n, count),
+            source,
+            tag,
+        )),
         Header::Refused(why) => refused(why),
     }
 }

@@ -122,7 +122,7 @@ fn walk(book: Book, source: u16, tag: u32) {
     word(b"WALK");
     number(source as u64);
     number(tag as u64);
-    match walks::walk(book, source, tag) {
+    match walker::walk(book, source, tag) {
         Ended::Clear => word(b" CLEAR"),
         Ended::Stopped(stage) => {
             word(b" STOPPED");

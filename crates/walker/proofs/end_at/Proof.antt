@@ -4,8 +4,8 @@ use Prim.Native.Nat.{ℕ, _%_}
 use borrow.Author.Tests.{eq-eqb, ne-eqb}
 use borrow.Author.Needs.{needs}
 use lib.Pow.{pow-pos}
-use Rattle.walks.proofs.end_at.Statement.{statement}
-use Rattle.walks.proofs.end_at.Tie as tie
+use Rattle.walker.proofs.end_at.Statement.{statement}
+use Rattle.walker.proofs.end_at.Tie as tie
 
 size-requires : tie.Need-size-requires
 size-requires c κs = search needs

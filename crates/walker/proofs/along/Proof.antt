@@ -7,9 +7,9 @@ use Rattle.fabric.specs.Labels.{size}
 use Rattle.fabric.specs.Walks.{switchAt, walked}
 use Rattle.scheme.specs.Tags.{stepsOf}
 use Rattle.book.specs.Standing.{stopsOf}
-use Rattle.walks.proofs.Walking.{ClearUpTo, clear-more, stopped-here, next-switch, walk-ends}
-use Rattle.walks.proofs.along.Statement.{statement}
-use Rattle.walks.proofs.along.Tie as tie
+use Rattle.walker.proofs.Walking.{ClearUpTo, clear-more, stopped-here, next-switch, walk-ends}
+use Rattle.walker.proofs.along.Statement.{statement}
+use Rattle.walker.proofs.along.Tie as tie
 
 abbrev Inv-loop : tie.InvT-loop
 Inv-loop book source tag n j₀ i₀ j i =

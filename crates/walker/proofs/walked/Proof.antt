@@ -3,9 +3,9 @@
 use borrow.Author.Needs.{needs}
 use Rattle.table.proofs.Checks.{refusing, accepting, is-below}
 use Rattle.book.proofs.Filings.{sound-passes}
 use Rattle.walks.proofs.Promises.{walk-refuses, walk-passes}
-use Rattle.walks.proofs.walked.Statement.{statement}
-use Rattle.walks.proofs.walked.Tie as tie
+use Rattle.walker.proofs.walked.Statement.{statement}
+use Rattle.walker.proofs.walked.Tie as tie
 
 outside-labels-requires : tie.Need-outside-labels-requires
 outside-labels-requires c κs = search needs

@@ -1,9 +1,9 @@
 -- 16 by the book's own test; past it the book is sound.
 use borrow.Author.Needs.{needs}
 use Rattle.table.proofs.Checks.{refusing}
 use Rattle.walks.proofs.Promises.{walk-refuses}
-use Rattle.walks.proofs.walk.Statement.{statement}
-use Rattle.walks.proofs.walk.Tie as tie
+use Rattle.walker.proofs.walk.Statement.{statement}
+use Rattle.walker.proofs.walk.Tie as tie
 
 unsound-requires : tie.Need-unsound-requires
 unsound-requires c κs = search needs
