@@ -58,12 +58,12 @@ fn notice(rows: &[u8], at: usize) -> Notice
 
 // The book of size n after the rows are filed one after the other, whatever each filing answers.
 fn filed(n: u8, rows: &[u8]) -> Book {
-    let opened = bookkeeping::open(n);
+    let opened = Book::open(n);
     let mut book = opened.book;
     let mut at = 0;
     while 10 <= rows.len() - at {
         let x = notice(rows, at);
-        let kept = bookkeeping::file(book, x);
+        let kept = book.file(x);
         let next = kept.book;
         book = next;
         at += 10;

@@ -1,6 +1,14 @@
-// Document 01, 'Notices': the book of notices, and what its entries answer.
+// Document 01, 'Notices': the book of notices, what its entries answer, and those that hand it back: open, file, withdraw.
 use notices::Notice;
 use table::Refusal;
+ghost use mathlib.Core.Path.{_≡_};
+ghost use mathlib.Core.Bool.{false};
+ghost use Prim.Native.Nat.{_<_};
+ghost use Rattle.fabric.specs.Labels.{size};
+ghost use Rattle.book.specs.Standing.{unsound, Sound};
+ghost use Rattle.book.specs.Entries.{Opens, Files, Withdraws};
+
+mod held; // held.rt: what stands in a book
 
 // The first `count` notices stand, by rising number; every place after them holds number 0 and the first target, all zero.
 pub struct Book {
@@ -32,4 +40,113 @@ pub enum Link {
 pub enum Listing {
     Listed(usize),
     Refused(Refusal),
+}
+
+// Whether no accepted opening, filing and withdrawing produce the book.
+pub fn unsound(book: Book) -> bool
+    ensures { λ r. ⌜ (r ≡ unsound book) × (r ≡ false → Sound book) ⌝ }
+{
+    if fabric::outside_sizes(book.n) {
+        return true;
+    }
+    if 48 < book.count {
+        return true;
+    }
+    let notices = book.notices;
+    if places::misfiled(book.n, notices, book.count) {
+        return true;
+    }
+    places::littered(notices, book.count)
+}
+
+fn done(book: Book) -> Kept
+    ensures { λ r. ⌜ (r .book ≡ book) × (r .answer ≡ Answer.Done) ⌝ }
+{
+    Kept {
+        book,
+        answer: Answer::Done,
+    }
+}
+
+fn refused(book: Book, why: Refusal) -> Kept
+    ensures { λ r. ⌜ (r .book ≡ book) × (r .answer ≡ Answer.Refused why) ⌝ }
+{
+    Kept {
+        book,
+        answer: Answer::Refused(why),
+    }
+}
+
+impl Book {
+    // Document 01: "open (n): 1, handing back a book of size 0 with no notices, which every entry over a book answers with
+    // 16; otherwise an empty book of size n."
+    pub fn open(n: u8) -> Kept
+        ensures { λ r. ⌜ Opens n r ⌝ }
+    {
+        if fabric::outside_sizes(n) {
+            return refused(held::empty(0), Refusal::Size);
+        }
+        done(held::empty(n))
+    }
+
+    // "file: 16, 3, 4, 5, 6, 7, 8."
+    pub fn file(self, notice: Notice) -> Kept
+        ensures { λ r. ⌜ Files self notice r ⌝ }
+    {
+        if unsound(self) {
+            return refused(self, Refusal::Book);
+        }
+        self.filed(notice)
+    }
+
+    // file, over a book that 16 is not given for: 3, 4, 5, 6, 7, 8.
+    pub fn filed(self, notice: Notice) -> Kept
+        requires { ⌜ Sound self ⌝ }
+        ensures { λ r. ⌜ Files self notice r ⌝ }
+    {
+        if notice.number == 0 {
+            return refused(self, Refusal::Zero);
+        }
+        let n = self.n;
+        if targets::outside_fabric(n, notice) {
+            return refused(self, Refusal::Place);
+        }
+        if targets::bad_field(n, notice) {
+            return refused(self, Refusal::Field);
+        }
+        if targets::too_wide(notice) {
+            return refused(self, Refusal::Wide);
+        }
+        if held::stands(self, notice.number) {
+            return refused(self, Refusal::Stands);
+        }
+        if 48 <= self.count {
+            return refused(self, Refusal::Full);
+        }
+        done(held::inserted(self, notice))
+    }
+
+    // "withdraw: 16, 3, 9."
+    pub fn withdraw(self, number: u16) -> Kept
+        ensures { λ r. ⌜ Withdraws self number r ⌝ }
+    {
+        if unsound(self) {
+            return refused(self, Refusal::Book);
+        }
+        self.withdrawn(number)
+    }
+
+    // withdraw, over a book that 16 is not given for: 3, 9.
+    pub fn withdrawn(self, number: u16) -> Kept
+        requires { ⌜ Sound self ⌝ }
+        ensures { λ r. ⌜ Withdraws self number r ⌝ }
+    {
+        if number == 0 {
+            return refused(self, Refusal::Zero);
+        }
+        if !held::stands(self, number) {
+            return refused(self, Refusal::Absent);
+        }
+        done(held::removed(self, number))
+    }
 }

@@ -22,7 +22,7 @@ fn entries(why: &[u8], book: Book) {
 
 // A book of size 3 in which the three notices lie in this order.
 fn holding(a: Notice, b: Notice, c: Notice) -> Book {
-    let kept = bookkeeping::open(3);
+    let kept = Book::open(3);
     let mut book = kept.book;
     book.notices[0] = a;
     book.notices[1] = b;
@@ -32,7 +32,7 @@ fn holding(a: Notice, b: Notice, c: Notice) -> Book {
 }
 
 fn sizes() {
-    let kept = bookkeeping::open(3);
+    let kept = Book::open(3);
     let mut book = kept.book;
     book.n = 0;
     entries(b"size 0", book);
@@ -43,7 +43,7 @@ fn sizes() {
 }
 
 fn counts() {
-    let kept = bookkeeping::open(3);
+    let kept = Book::open(3);
     let mut book = kept.book;
     book.count = 1;
     entries(b"count 1, and no notice", book);
@@ -72,7 +72,7 @@ fn places() {
     let mut book = holding(x, z, z);
     book.count = 2;
     entries(b"rubbish in an unused place", book);
-    let kept = bookkeeping::open(3);
+    let kept = Book::open(3);
     let mut last = kept.book;
     last.notices[47] = switch(0, 0, 0);
     entries(b"rubbish in the last place", last);

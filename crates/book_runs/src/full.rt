@@ -12,7 +12,7 @@ fn filled(empty: Book) -> Book {
     let mut book = empty;
     let mut left: u16 = 48;
     while 0 < left {
-        let kept = bookkeeping::file(book, links(left, 0, left % 8, 1));
+        let kept = book.file(links(left, 0, left % 8, 1));
         let after = kept.book;
         book = after;
         left -= 1;

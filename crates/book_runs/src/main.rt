@@ -62,7 +62,7 @@ pub fn pattern(number: u16, stage: u8, value: u16, mask: u16, set: u8) -> Notice
 pub fn open(n: u8) -> Book {
     word(b"open");
     number(n as u64);
-    let kept = bookkeeping::open(n);
+    let kept = Book::open(n);
     let answer = kept.answer;
     told(answer);
     let book = kept.book;
@@ -72,7 +72,7 @@ pub fn open(n: u8) -> Book {
 pub fn file(book: Book, notice: Notice) -> Book {
     word(b"file");
     number(notice.number as u64);
-    let kept = bookkeeping::file(book, notice);
+    let kept = book.file(notice);
     let answer = kept.answer;
     told(answer);
     let after = kept.book;
@@ -82,7 +82,7 @@ pub fn file(book: Book, notice: Notice) -> Book {
 pub fn withdraw(book: Book, k: u16) -> Book {
     word(b"withdraw");
     number(k as u64);
-    let kept = bookkeeping::withdraw(book, k);
+    let kept = book.withdraw(k);
     let answer = kept.answer;
     told(answer);
     let after = kept.book;
@@ -95,7 +95,7 @@ pub fn link(book: Book, stage: u8, switch: u16, code: u8) {
     number(stage as u64);
     number(switch as u64);
     number(code as u64);
-    match bookkeeping::link(book, stage, switch, code) {
+    match asked::link(book, stage, switch, code) {
         Link::Clear => word(b" CLEAR"),
         Link::Stopped => word(b" STOPPED"),
         Link::Refused(why) => refused(why),
@@ -106,7 +106,7 @@ pub fn link(book: Book, stage: u8, switch: u16, code: u8) {
 pub fn listing(book: Book, memory: &mut [u8]) {
     word(b"listing in");
     number(memory.len() as u64);
-    match bookkeeping::listing(book, memory) {
+    match asked::listing(book, memory) {
         Listing::Listed(count) => listed(count),
         Listing::Refused(why) => refused(why),
     }

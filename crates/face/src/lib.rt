@@ -64,7 +64,7 @@ pub extern "C" fn tabashfar_normal_form(n: u8, source: u16, tag: u32) -> u64
 pub extern "C" fn tabashfar_open(n: u8) -> u64
     ensures { λ r. ⌜ Tells (Opens n) keptSays r ⌝ }
 {
-    let kept = bookkeeping::open(n);
+    let kept = Book::open(n);
     let answer = kept.answer;
     answered(answer)
 }
@@ -74,7 +74,7 @@ fn filed(sheet: &[u8], notice: Notice) -> u64
 {
     match sheet_reader::read_header(sheet) {
         Header::Sheet { n, count } => {
-            let kept = bookkeeping::filed(after_all(sheet, n, count), notice);
+            let kept = after_all(sheet, n, count).filed(notice);
             let answer = kept.answer;
             answered(answer)
         }
@@ -147,7 +147,7 @@ pub extern "C" fn tabashfar_withdraw(sheet: &[u8], number: u16) -> u64
 {
     match sheet_reader::read_header(sheet) {
         Header::Sheet { n, count } => {
-            let kept = bookkeeping::withdrawn(after_all(sheet, n, count), number);
+            let kept = after_all(sheet, n, count).withdrawn(number);
             let answer = kept.answer;
             answered(answer)
         }
@@ -161,7 +161,7 @@ pub extern "C" fn tabashfar_link(sheet: &[u8], stage: u8, switch: u16, code: u8)
     ensures { λ r. ⌜ OverSheet (now (sheet .entry)) (λ b. Tells (Tests b stage switch code) linkSays) r ⌝ }
 {
     match sheet_reader::read_header(sheet) {
-        Header::Sheet { n, count } => link_told(bookkeeping::tested(
+        Header::Sheet { n, count } => link_told(asked::tested(
             after_all(sheet, n, count),
             stage,
             switch,
@@ -207,10 +207,7 @@ pub extern "C" fn tabashfar_listing(sheet: &[u8], memory: &mut [u8]) -> u64
     ensures { λ r. ⌜ ListsOver (now (sheet .entry)) (now (memory .entry)) (now (memory .exit)) r ⌝ }
 {
     match sheet_reader::read_header(sheet) {
-        Header::Sheet { n, count } => listed(bookkeeping::listed(
-            after_all(sheet, n, count),
-            memory,
-        )),
+        Header::Sheet { n, count } => listed(asked::listed(after_all(sheet, n, count), memory)),
         Header::Refused(why) => refused(why),
     }
 }

@@ -10,7 +10,7 @@ pub fn after_all(sheet: &[u8], n: u8, count: u16) -> Book
     requires { ⌜ (1 ≤ n) × (n ≤ 12) ⌝ }
     ensures { λ r. ⌜ (After (now (sheet .entry)) n count r) × (Sound r) ⌝ }
 {
-    let opened = bookkeeping::open(n);
+    let opened = Book::open(n);
     let mut book = opened.book;
     let mut k: usize = 0;
     while k < count as usize {
@@ -28,12 +28,12 @@ fn after_one(book: Book, action: Action) -> Book
 {
     match action {
         Action::File(notice) => {
-            let kept = bookkeeping::filed(book, notice);
+            let kept = book.filed(notice);
             let filed = kept.book;
             filed
         }
         Action::Withdraw(k) => {
-            let kept = bookkeeping::withdrawn(book, k);
+            let kept = book.withdrawn(k);
             let left = kept.book;
             left
         }

@@ -25,20 +25,8 @@ pub fn action_line(n: u8, book: Book, part: &[u8], out: &mut [u8], at: usize) ->
     ensures { λ r. ⌜ LineAtWritten n book (now (part .entry)) (now (out .entry)) at (now (out .exit)) r ⌝ }
 {
     match action_bytes::read_action(part) {
-        Action::File(notice) => notice_line(
-            b"FILE ",
-            notice.number,
-            bookkeeping::file(book, notice),
-            out,
-            at,
-        ),
-        Action::Withdraw(k) => notice_line(
-            b"WITHDRAW ",
-            k,
-            bookkeeping::withdraw(book, k),
-            out,
-            at,
-        ),
+        Action::File(notice) => notice_line(b"FILE ", notice.number, book.file(notice), out, at),
+        Action::Withdraw(k) => notice_line(b"WITHDRAW ", k, book.withdraw(k), out, at),
         Action::Route {
             source,
             destination,

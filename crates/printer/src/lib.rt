@@ -65,7 +65,7 @@ fn lines(sheet: &[u8], n: u8, count: u16, out: &mut [u8], at: usize) -> usize
     requires { ⌜ (n ≤ 12) × (at + actionRoom * count ≤ length (now out)) ⌝ }
     ensures { λ r. ⌜ ((b : Book) × LinesWritten (now (sheet .entry)) n count (now (out .entry)) at (now (out .exit)) r b) ⌝ }
 {
-    let mut book = bookkeeping::open(n).book;
+    let mut book = Book::open(n).book;
     let mut next = at;
     let mut k: usize = 0;
     while k < count as usize {

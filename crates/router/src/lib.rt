@@ -56,7 +56,7 @@ pub fn route(book: Book, source: u16, destination: u16) -> Found
 fn away(book: Book) -> Found
     ensures { λ r. ⌜ r ≡ cond (unsound book) (Found.Refused Refusal.Book) (Found.Refused Refusal.Label) ⌝ }
 {
-    if bookkeeping::unsound(book) {
+    if book::unsound(book) {
         return Found::Refused(Refusal::Book);
     }
     Found::Refused(Refusal::Label)

@@ -26,12 +26,12 @@ fn links(number: u16, stage: u8, switch: u16, set: u8) -> Notice {
 }
 
 fn empty(n: u8) -> Book {
-    let kept = bookkeeping::open(n);
+    let kept = Book::open(n);
     kept.book
 }
 
 fn with(book: Book, notice: Notice) -> Book {
-    let kept = bookkeeping::file(book, notice);
+    let kept = book.file(notice);
     kept.book
 }
 

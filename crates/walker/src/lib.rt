@@ -15,7 +15,7 @@ ghost use Rattle.walks.specs.Entries.{Walked, Walks};
 pub fn walk(book: Book, source: u16, tag: u32) -> Ended
     ensures { λ r. ⌜ Walks book source tag r ⌝ }
 {
-    if bookkeeping::unsound(book) {
+    if book::unsound(book) {
         return Ended::Refused(Refusal::Book);
     }
     walked(book, source, tag)
@@ -49,7 +49,7 @@ fn along(book: Book, source: u16, tag: u32) -> Ended
             break end_at(n, j, tag);
         }
         let code = scheme::step_of(n, tag, i, j);
-        if bookkeeping::stopper(book, i, j, code) != 0 {
+        if asked::stopper(book, i, j, code) != 0 {
             break Ended::Stopped(i);
         }
         j = fabric::landing(n, i, code, j);
