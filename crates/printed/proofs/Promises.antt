@@ -75,7 +75,8 @@ module _ {sheet before after : List ℕ} {r : Ran} {bytes : ℕ} (w : Runs sheet
       go (inr p) =
           let q = w .runs .prints p in
           let f : accepted (bytes ∷ []) ≡ accepted (length (q .0) ∷ []) = sym (ap ranSays e) ∙ q .2 in
-          (q .0, cc, q .3, q .4)
+          let within = q .4 in
+          (q .0, cc, q .3, omega arith)
 
   -- what was printed lies within the memory
   pub runs-fit : bytes ≤ length after
