@@ -5,7 +5,7 @@ use mathlib.Core.List.{List, [], _∷_}
 use Prim.Native.Nat.{ℕ, _≤_, _<_}
 use native.Mathlib.Omega.{arith}
 use borrow.Author.Tests.{eq-eqb, ne-eqb, le-leb, lt-leb, leb-false}
-use lib.Dec.{eqb, leb}
+use lib.Dec.{leb}
 use lib.ListN.{length}
 use Rattle.table.specs.declared.Refusal.{Refusal}
 use Rattle.table.specs.Numbers.{numberOf}
@@ -19,6 +19,7 @@ use Rattle.book.specs.declared.Link.{Link}
 use Rattle.book.specs.Standing.{standing, stopper, Sound}
 use Rattle.book.specs.Entries.{answerSays, HandsBack, linkChecks, Tests}
 use Rattle.book.proofs.Filings.{length-standing}
+use Rattle.book.proofs.Testing.{said, says-tests}
 
 module _ (checks : List Check) (given made : Book) (r : Kept) where
   pub hands-back-refused : (why : Refusal) → r .book ≡ given → r .answer ≡ Answer.Refused why → Given (numberOf why) checks → HandsBack checks given made r
@@ -58,23 +59,19 @@ switch-by n i other e f inside = inside (neither (leb n i) other (sym e ∙ f) .
 
 module _ (b : Book) (i j c : ℕ) where
   pub link-refused : (why : Refusal) → Given (numberOf why) (linkChecks b i j c) → Tests b i j c (Link.Refused why)
-  link-refused why g = record { says = sym (given-refuses refused _ (numberOf why) (linkChecks b i j c) g) }
+  link-refused why g = says-tests b i j c (Link.Refused why) (sym (given-refuses refused _ (numberOf why) (linkChecks b i j c) g))
 
   pub link-clear : {number : ℕ} → number ≡ stopper (b .n) (standing b) i j c → number ≡ 0 → Passed (linkChecks b i j c) → Tests b i j c Link.Clear
   link-clear e z p =
-      record {
-        says =
-            sym (passed-accepts refused (Reply.accepted (cond (eqb (stopper (b .n) (standing b) i j c) 0) 0 1 ∷ [])) (linkChecks b i j c) p
-            ∙ ap (λ (s : Bool). Reply.accepted (cond s 0 1 ∷ [])) (eq-eqb (stopper (b .n) (standing b) i j c) 0 (sym e ∙ z)));
-      }
+      says-tests b i j c Link.Clear
+      (sym (passed-accepts refused (said b i j c) (linkChecks b i j c) p
+      ∙ ap (λ (s : Bool). Reply.accepted (cond s 0 1 ∷ [])) (eq-eqb (stopper (b .n) (standing b) i j c) 0 (sym e ∙ z))))
 
   pub link-stopped : {number : ℕ} → number ≡ stopper (b .n) (standing b) i j c → (number ≡ 0 → ⊥) → Passed (linkChecks b i j c) → Tests b i j c Link.Stopped
   link-stopped e z p =
-      record {
-        says =
-            sym (passed-accepts refused (Reply.accepted (cond (eqb (stopper (b .n) (standing b) i j c) 0) 0 1 ∷ [])) (linkChecks b i j c) p
-            ∙ ap (λ (s : Bool). Reply.accepted (cond s 0 1 ∷ [])) (ne-eqb (stopper (b .n) (standing b) i j c) 0 (λ y. z (e ∙ y))));
-      }
+      says-tests b i j c Link.Stopped
+      (sym (passed-accepts refused (said b i j c) (linkChecks b i j c) p
+      ∙ ap (λ (s : Bool). Reply.accepted (cond s 0 1 ∷ [])) (ne-eqb (stopper (b .n) (standing b) i j c) 0 (λ y. z (e ∙ y)))))
 
 -- "48 stand already": as many stand as the book counts
 module _ (b : Book) (sound : Sound b) (places : length (b .notices) ≡ 48) where

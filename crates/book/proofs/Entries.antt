@@ -1,14 +1,13 @@
 -- What the entries' definitions say: the order of each entry's checks and what passes them, what the answers say, and which book or
 -- memory is left.
 use mathlib.Core.Path.{_≡_, refl, sym, ap, _∙_}
-use mathlib.Core.Bool.{Bool, true, false, cond, not, _||_, true≢false}
+use mathlib.Core.Bool.{Bool, true, false, not, _||_, true≢false}
 use mathlib.Core.List.{List, [], _∷_, _++_, List·Memᴰ}
 use mathlib.Core.Logic.{_⊎_, inl, inr, _↔_}
 use Prim.Native.Nat.{ℕ, zero, suc, _*_, _≤_, _<_}
 use native.Mathlib.Omega.{arith}
 use native.Mathlib.Decide.{ℕ-discrete}
-use borrow.Author.Tests.{ltb-false, leb-false, eqb-false, not-false, le-ltb, le-leb, lt-leb, eq-eqb, ne-eqb}
-use lib.Dec.{eqb}
+use borrow.Author.Tests.{ltb-false, leb-false, eqb-false, not-false, le-ltb, le-leb, lt-leb, ne-eqb}
 use lib.ListN.{length, take, drop, getD}
 use lib.Seq.{take-at, drop-at}
 use Rattle.table.specs.declared.Refusal.{Refusal}
@@ -26,10 +25,10 @@ use Rattle.book.specs.declared.Kept.{Kept}
 use Rattle.book.specs.declared.Answer.{Answer}
 use Rattle.book.specs.declared.Link.{Link}
 use Rattle.book.specs.declared.Listing.{Listing}
-use Rattle.standing.specs.Rising.{stands, Filed}
+use Rattle.standing.specs.Rising.{stands}
 use Rattle.actions.specs.Rows.{rows}
-use Rattle.book.specs.Standing.{standing, unsound, Stopped, stopper, stopsOf}
-use Rattle.book.specs.Entries.{answerSays, linkSays, listingSays, HandsBack, openChecks, opened, Opens, fileChecks, Files, withdrawChecks, Withdraws, linkChecks, Tests, listingChecks, Lists}
+use Rattle.book.specs.Standing.{standing, unsound, Stopped, stopsOf}
+use Rattle.book.specs.Entries.{answerSays, linkSays, listingSays, HandsBack, openChecks, opened, Opens, bookChecks, fileChecks, Files, withdrawChecks, Withdraws, linkChecks, Tests, listingChecks, Lists}
 use Rattle.actions.proofs.Listings.{length-rows}
 use Rattle.standing.proofs.Members.{stands-member, member-stands}
 use Rattle.book.proofs.Filings.{sound-if}
@@ -113,6 +112,13 @@ module _ (b : Book) (x : Notice) where
     pub eight-when-full : (HasNumber (x .number) (standing b) → ⊥) → 48 ≤ length (standing b) → Given 8 (fileChecks b x)
     eight-when-full new full = past-six (later (number-free (x .number) (standing b) new) (here (le-leb 48 (length (standing b)) full) refl))
 
+-- 16 is what every entry over a book judges first
+pub book-order : (b : Book) → numbers (bookChecks b) ≡ 16 ∷ []
+book-order b = refl
+
+pub book-lets-pass : (b : Book) → Passed (bookChecks b) ↔ (unsound b ≡ false)
+book-lets-pass b = ((λ p. passed-nth (bookChecks b) 0 p), (λ e. passes e none))
+
 module _ (b : Book) (k : ℕ) where
   -- "withdraw: 16, 3, 9."
   pub withdraw-order : numbers (withdrawChecks b k) ≡ 16 ∷ 3 ∷ 9 ∷ []
@@ -152,14 +158,12 @@ module _ (b : Book) (memory : List ℕ) where
 
   -- 13: "lent memory too short", shorter than ten bytes for each notice that stands
   pub listing-lets-pass : Passed (listingChecks b memory) ↔ ((unsound b ≡ false) × (10 * length (standing b) ≤ length memory))
-  listing-lets-pass =
-      let r = length-rows (standing b) in (
-        (λ p.
-            let ok : (k : ℕ) → PassedAt (listingChecks b memory) k = λ k. passed-nth (listingChecks b memory) k p in
-            let h = ltb-false (length memory) (length (rows (standing b))) (ok 1) in
-            (ok 0, omega arith)),
-        (λ w. let h = w .1 in passes (w .0) (passes (le-ltb (length memory) (length (rows (standing b))) (omega arith)) none)),
-      )
+  listing-lets-pass = (
+    (λ p.
+        let ok : (k : ℕ) → PassedAt (listingChecks b memory) k = λ k. passed-nth (listingChecks b memory) k p in
+        (ok 0, ltb-false (length memory) (10 * length (standing b)) (ok 1))),
+    (λ w. passes (w .0) (passes (le-ltb (length memory) (10 * length (standing b)) (w .1)) none)),
+  )
 
 -- every refusal comes with a number of the table
 pub answer-numbered : (a : Answer) → Numbered (answerSays a)
@@ -221,18 +225,15 @@ module _ (b : Book) (places : length (b .notices) ≡ 48) (i j c : ℕ) where
   -- "link stopped or not": it says 1 where a standing notice names the link, and 0 otherwise
   pub link-says-exactly : (r : Link) → Passed (linkChecks b i j c) → Tests b i j c r
       → ((linkSays r ≡ Reply.accepted (0 ∷ [])) × (Stopped (b .n) (standing b) i j c → ⊥)) ⊎ ((linkSays r ≡ Reply.accepted (1 ∷ [])) × Stopped (b .n) (standing b) i j c)
-  link-says-exactly r passed t = go (ℕ-discrete (stopper (b .n) (standing b) i j c) 0)
+  link-says-exactly r passed t = go (ℕ-discrete (stopsOf b i j c) 0)
     where
-      filed : Filed (b .n) 0 (standing b)
-      filed = sound-if b places (link-lets-pass b i j c .0 passed .0) .filed
+      sound : unsound b ≡ false
+      sound = link-lets-pass b i j c .0 passed .0
 
-      says : linkSays r ≡ Reply.accepted (cond (eqb (stopper (b .n) (standing b) i j c) 0) 0 1 ∷ [])
-      says = t .says ∙ passed-accepts refused (Reply.accepted (cond (eqb (stopper (b .n) (standing b) i j c) 0) 0 1 ∷ [])) (linkChecks b i j c) passed
-
-      go : Dec (stopper (b .n) (standing b) i j c ≡ 0)
+      go : Dec (stopsOf b i j c ≡ 0)
           → ((linkSays r ≡ Reply.accepted (0 ∷ [])) × (Stopped (b .n) (standing b) i j c → ⊥)) ⊎ ((linkSays r ≡ Reply.accepted (1 ∷ [])) × Stopped (b .n) (standing b) i j c)
-      go (yes e) = inl (says ∙ ap (λ (s : Bool). Reply.accepted (cond s 0 1 ∷ [])) (eq-eqb (stopper (b .n) (standing b) i j c) 0 e), stopper-none (b .n) i j c (standing b) filed .0 e)
-      go (no e) = inr (says ∙ ap (λ (s : Bool). Reply.accepted (cond s 0 1 ∷ [])) (ne-eqb (stopper (b .n) (standing b) i j c) 0 e), stopper-some (b .n) i j c (standing b) filed .0 e)
+      go (yes e) = let none = stops-exactly sound .0 e in inl (t .clear passed none, none)
+      go (no e) = let some = stopper-some (b .n) i j c (standing b) (sound-if b places sound .filed) .0 e in inr (t .stopped passed some, some)
 
 -- the listing: "ten bytes each .. at the front; the rest stays. It answers how many there are."
 module _ (b : Book) (before after : List ℕ) (r : Listing) (lists : Lists b before after r) where
@@ -242,15 +243,14 @@ module _ (b : Book) (before after : List ℕ) (r : Listing) (lists : Lists b bef
       × (drop (10 * length (standing b)) after ≡ drop (10 * length (standing b)) before)
   listed-exactly passed =
       let l = length-rows (standing b) in
-      let left : after ≡ rows (standing b) ++ drop (length (rows (standing b))) before =
-      lists .leaves ∙ passed-accepts (λ k. before) (rows (standing b) ++ drop (length (rows (standing b))) before) (listingChecks b before) passed in (
+      let left : after ≡ rows (standing b) ++ drop (10 * length (standing b)) before =
+      lists .leaves ∙ passed-accepts (λ k. before) (rows (standing b) ++ drop (10 * length (standing b)) before) (listingChecks b before) passed in (
         lists .says ∙ passed-accepts refused (Reply.accepted (length (standing b) ∷ [])) (listingChecks b before) passed,
-        ap (take (10 * length (standing b))) left ∙ take-at (rows (standing b)) (drop (length (rows (standing b))) before) (10 * length (standing b)) l,
-        ap (drop (10 * length (standing b))) left ∙ drop-at (rows (standing b)) (drop (length (rows (standing b))) before) (10 * length (standing b)) l
-            ∙ ap (λ (k : ℕ). drop k before) l,
+        ap (take (10 * length (standing b))) left ∙ take-at (rows (standing b)) (drop (10 * length (standing b)) before) (10 * length (standing b)) l,
+        ap (drop (10 * length (standing b))) left ∙ drop-at (rows (standing b)) (drop (10 * length (standing b)) before) (10 * length (standing b)) l,
       )
 
   pub refused-listing-writes-nothing : (why : Refusal) → r ≡ Listing.Refused why → after ≡ before
   refused-listing-writes-nothing why e =
       let g = refused-given (listingChecks b before) (length (standing b) ∷ []) (numberOf why) (sym (ap listingSays e) ∙ lists .says) in
-      lists .leaves ∙ given-refuses (λ k. before) (rows (standing b) ++ drop (length (rows (standing b))) before) (numberOf why) (listingChecks b before) g
+      lists .leaves ∙ given-refuses (λ k. before) (rows (standing b) ++ drop (10 * length (standing b)) before) (numberOf why) (listingChecks b before) g

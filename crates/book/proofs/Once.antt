@@ -2,7 +2,6 @@
 use mathlib.Core.Path.{_≡_, refl, sym, ap, ap₂, _∙_}
 use mathlib.Core.List.{List}
 use Prim.Native.Nat.{ℕ}
-use native.Mathlib.Omega.{arith}
 use Rattle.table.proofs.Checks.{zero-one}
 use Rattle.table.specs.declared.Refusal.{Refusal}
 use Rattle.table.specs.Numbers.{numberOf}
@@ -15,6 +14,7 @@ use Rattle.book.specs.declared.Kept.{Kept}
 use Rattle.book.specs.declared.Answer.{Answer}
 use Rattle.book.specs.declared.Link.{Link}
 use Rattle.book.specs.declared.Listing.{Listing}
+use Rattle.book.proofs.Testing.{tests-says}
 use Rattle.book.specs.Entries.{answerSays, linkSays, listingSays, HandsBack, Opens, Files, Withdraws, Tests, Lists}
 
 one-refusal : (v w : Refusal) → refused (numberOf v) ≡ refused (numberOf w) → v ≡ w
@@ -57,7 +57,7 @@ pub withdraws-once : (b : Book) (k : ℕ) (q r : Kept) → Withdraws b k q → W
 withdraws-once b k q r p s = hands-back-once _ _ _ q r p s
 
 pub tests-once : (b : Book) (i j c : ℕ) (q r : Link) → Tests b i j c q → Tests b i j c r → q ≡ r
-tests-once b i j c q r p s = link-tells q r (p .says ∙ sym (s .says))
+tests-once b i j c q r p s = link-tells q r (tests-says b i j c q p ∙ sym (tests-says b i j c r s))
 
 -- and every byte of the lent memory
 pub lists-once : (b : Book) (before after later : List ℕ) (q r : Listing) → Lists b before after q → Lists b before later r → (q ≡ r) × (after ≡ later)

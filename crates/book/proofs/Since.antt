@@ -20,6 +20,7 @@ use Rattle.book.specs.declared.Link.{Link}
 use Rattle.notices.specs.Targets.{names}
 use Rattle.book.specs.Standing.{standing, bookOf, Stopped, stopper}
 use Rattle.book.specs.Entries.{opened, linkChecks, linkSays, Tests}
+use Rattle.book.proofs.Testing.{tests-says}
 use Rattle.book.specs.Runs.{NamedSince, Change, after, Accepted, run, AllAccepted, NotWithdrawn, StandsSince}
 use Rattle.standing.specs.Rising.{Distinct}
 use Rattle.standing.proofs.Members.{filed-distinct}
@@ -117,7 +118,7 @@ module _ (n : ℕ) (legal : outsideSizes n ≡ false) (changes : List Change) (i
 
   test-says : Tests end i j c r → linkSays r ≡ Reply.accepted (cond (eqb (stopper (end .n) (standing end) i j c) 0) 0 1 ∷ [])
   test-says t =
-      t .says
+      tests-says end i j c r t
       ∙ passed-accepts refused _ (linkChecks end i j c)
       (passes (good-sound n end legal end-good)
       (passes (neither-of _ _ (ap (λ (k : ℕ). leb k i) same-size ∙ lt-leb n i stage) (ap (λ (k : ℕ). leb (size k) j) same-size ∙ lt-leb (size n) j label))

@@ -1,13 +1,13 @@
 -- Document 01, 'Numbers handed back': the entries over a book, their order of checks, and what each hands back.
 use mathlib.Core.Path.{_≡_}
-use mathlib.Core.Bool.{cond, not, _||_}
+use mathlib.Core.Bool.{not, _||_}
 use mathlib.Core.List.{List, [], _∷_, _++_}
-use Prim.Native.Nat.{ℕ}
+use Prim.Native.Nat.{ℕ, _*_}
 use lib.Dec.{eqb}
 use lib.ListN.{length, drop}
 use Rattle.table.specs.Numbers.{numberOf}
 use Rattle.table.specs.Reply.{Reply, refused}
-use Rattle.table.specs.Checks.{Check, _when_, _below_, _notBelow_, checked}
+use Rattle.table.specs.Checks.{Check, Given, Passed, _when_, _below_, _notBelow_, checked}
 use Rattle.fabric.specs.Labels.{size, outsideSizes}
 use Rattle.notices.specs.declared.Notice.{Notice}
 use Rattle.book.specs.declared.Book.{Book}
@@ -16,8 +16,9 @@ use Rattle.book.specs.declared.Answer.{Answer}
 use Rattle.book.specs.declared.Link.{Link}
 use Rattle.book.specs.declared.Listing.{Listing}
 use Rattle.notices.specs.Targets.{outsideFabric, badField, tooWide}
-use Rattle.book.specs.Standing.{standing, bookOf, unsound, stopper}
+use Rattle.book.specs.Standing.{standing, bookOf, unsound, Stopped}
 use Rattle.standing.specs.Rising.{stands, insert, without}
+use Rattle.actions.specs.Layout.{actionLength}
 use Rattle.actions.specs.Rows.{rows}
 
 -- The theorems named here stand in proofs/Entries.antt, unless another file is named. `answer-numbered`, `link-numbered` and `listing-numbered`: no
@@ -57,11 +58,15 @@ opened n = checked (openChecks n) (λ k. bookOf 0 []) (bookOf n [])
 abbrev pub Opens : ℕ → Kept → Type 0
 Opens n r = HandsBack (openChecks n) (bookOf 0 []) (bookOf n []) r
 
+-- what every entry over a book judges first, 16: `book-order`, `book-lets-pass`
+abbrev pub bookChecks : Book → List Check
+bookChecks b = (16 when unsound b) ∷ []
+
 -- "file: 16, 3, 4, 5, 6, 7, 8.": `file-order`, `file-lets-pass`, `seven-though-full`, `eight-when-full`
 abbrev pub fileChecks : Book → Notice → List Check
 fileChecks b x =
-    (16 when unsound b)
-    ∷ (3 when eqb (x .number) 0)
+    bookChecks b
+    ++ (3 when eqb (x .number) 0)
     ∷ (4 when outsideFabric (b .n) (x .target))
     ∷ (5 when badField (b .n) (x .target))
     ∷ (6 when tooWide (x .target))
@@ -71,7 +76,7 @@ fileChecks b x =
 
 -- "withdraw: 16, 3, 9.": `withdraw-order`, `withdraw-lets-pass`
 abbrev pub withdrawChecks : Book → ℕ → List Check
-withdrawChecks b k = (16 when unsound b) ∷ (3 when eqb k 0) ∷ (9 when not (stands k (standing b))) ∷ []
+withdrawChecks b k = bookChecks b ++ (3 when eqb k 0) ∷ (9 when not (stands k (standing b))) ∷ []
 
 -- The book that an accepted filing makes, and an accepted withdrawing: `filed-stands`, `stands-on` and `stood-or-filed` (proofs/Changes.antt) say
 -- what stands in it.
@@ -89,17 +94,21 @@ Withdraws b k r = HandsBack (withdrawChecks b k) b (withdrawn b k) r
 
 -- "link stopped or not: 16, 4, 12.": `link-order`, `link-lets-pass`
 abbrev pub linkChecks : Book → ℕ → ℕ → ℕ → List Check
-linkChecks b i j c = (16 when unsound b) ∷ (4 when (i notBelow b .n || j notBelow size (b .n))) ∷ (12 when 2 below c) ∷ []
+linkChecks b i j c = bookChecks b ++ (4 when (i notBelow b .n || j notBelow size (b .n))) ∷ (12 when 2 below c) ∷ []
 
+-- stopped where some standing notice names the link, clear where none does: `link-says-exactly`; `tests-says` and `says-tests` (proofs/Testing.antt)
+-- say it by the stopper
 pub record Tests (b : Book) (i j c : ℕ) (r : Link) : Type 0 where
-  pub says : linkSays r ≡ checked (linkChecks b i j c) refused (Reply.accepted (cond (eqb (stopper (b .n) (standing b) i j c) 0) 0 1 ∷ []))
+  pub refuses : (k : ℕ) → Given k (linkChecks b i j c) → linkSays r ≡ refused k
+  pub stopped : Passed (linkChecks b i j c) → Stopped (b .n) (standing b) i j c → linkSays r ≡ Reply.accepted (1 ∷ [])
+  pub clear : Passed (linkChecks b i j c) → (Stopped (b .n) (standing b) i j c → ⊥) → linkSays r ≡ Reply.accepted (0 ∷ [])
 
--- "listing: 16, 13.": too short is shorter than the rows, ten bytes each; `listing-order`, `listing-lets-pass`
+-- "listing: 16, 13.": too short is shorter than ten bytes each; `listing-order`, `listing-lets-pass`
 abbrev pub listingChecks : Book → List ℕ → List Check
-listingChecks b memory = (16 when unsound b) ∷ (13 when length memory below length (rows (standing b))) ∷ []
+listingChecks b memory = bookChecks b ++ (13 when length memory below actionLength * length (standing b)) ∷ []
 
 -- "Standing notices by rising number, ten bytes each as filing actions, at the front; the rest stays. It answers how many
 -- there are.": `listed-exactly`, `refused-listing-writes-nothing`. `listed-rising` (proofs/Filings.antt) says that they stand by rising number.
 pub record Lists (b : Book) (before after : List ℕ) (r : Listing) : Type 0 where
   pub says : listingSays r ≡ checked (listingChecks b before) refused (Reply.accepted (length (standing b) ∷ []))
-  pub leaves : after ≡ checked (listingChecks b before) (λ k. before) (rows (standing b) ++ drop (length (rows (standing b))) before)
+  pub leaves : after ≡ checked (listingChecks b before) (λ k. before) (rows (standing b) ++ drop (actionLength * length (standing b)) before)

@@ -19,6 +19,7 @@ use Rattle.book.specs.declared.Book.{Book}
 use Rattle.book.specs.declared.Answer.{Answer}
 use Rattle.book.specs.declared.Link.{Link}
 use Rattle.book.specs.Standing.{standing, stopper, stopsOf}
+use Rattle.book.proofs.Testing.{says-tests}
 use Rattle.book.specs.Entries.{answerSays, linkSays, opened, fileChecks, withdrawChecks, linkChecks, Tests}
 use Rattle.book.specs.Runs.{Change, changeChecks, answer, after, Accepted, run, NotWithdrawn, StandsSince}
 use Rattle.book.proofs.Once.{answer-tells}
@@ -92,11 +93,9 @@ change-says (Change.withdraw k) b = says-checked answerSays Answer.Refused (λ r
 
 tests-so : (b : Book) (i j c : ℕ) → Tests b i j c (ours .link b i j c)
 tests-so b i j c =
-    record {
-      says =
-          says-checked linkSays Link.Refused (λ r. refl) (told b i j c) (linkChecks b i j c) (refl, (refl, (refl, tt)))
-          ∙ ap (λ (r : Reply). checked (linkChecks b i j c) refused r) (told-says b i j c);
-    }
+    says-tests b i j c (ours .link b i j c)
+    (says-checked linkSays Link.Refused (λ r. refl) (told b i j c) (linkChecks b i j c) (refl, (refl, (refl, tt)))
+    ∙ ap (λ (r : Reply). checked (linkChecks b i j c) refused r) (told-says b i j c))
 
 -- its own runs are those of demand 3: what it accepts is what the entries accept
 accepts-so : (a : Change) (b : Book) → Accepts ours a b ↔ Accepted a b

@@ -2,7 +2,7 @@
 -- any rule, and in proofs/Entries.antt, over a book.
 use mathlib.Core.Path.{_≡_}
 use mathlib.Core.Bool.{_||_}
-use mathlib.Core.List.{List, [], _∷_}
+use mathlib.Core.List.{List, [], _∷_, _++_}
 use Prim.Native.Nat.{ℕ}
 use Rattle.table.specs.Numbers.{numberOf}
 use Rattle.table.specs.Reply.{Reply, refused}
@@ -11,7 +11,8 @@ use Rattle.fabric.specs.Labels.{size}
 use Rattle.scheme.specs.Tags.{normalTag}
 use Rattle.paths.specs.Clear.{Rule, ClearPath, First, StageNamed}
 use Rattle.book.specs.declared.Book.{Book}
-use Rattle.book.specs.Standing.{unsound, stopsOf}
+use Rattle.book.specs.Standing.{stopsOf}
+use Rattle.book.specs.Entries.{bookChecks}
 use Rattle.routes.specs.declared.Found.{Found}
 
 -- the number and values of each answer: 11 comes with a stage. `tag-exactly` and `eleven-routed` say what the answer is exactly where
@@ -29,7 +30,7 @@ Routed n stops s d (Found.Refused r) = ⊥
 
 -- "route: 16, 10", and then. `route-order` reads the numbers off, `route-lets-pass` says what passes.
 abbrev pub routeChecks : Book → ℕ → ℕ → List Check
-routeChecks b s d = (16 when unsound b) ∷ (10 when (s notBelow size (b .n) || d notBelow size (b .n))) ∷ []
+routeChecks b s d = bookChecks b ++ (10 when (s notBelow size (b .n) || d notBelow size (b .n))) ∷ []
 
 -- Past them, what 01 says of all paths over the links that the book stops: `tag-exactly` and `eleven-exactly` say when a tag is given and
 -- when 11; `route-once`: no second answer.

@@ -1,6 +1,6 @@
 -- Document 01, 'Numbers handed back', "Entries and order of checks": walk.
 use mathlib.Core.Path.{_≡_}
-use mathlib.Core.List.{List, [], _∷_}
+use mathlib.Core.List.{List, [], _∷_, _++_}
 use Prim.Native.Nat.{ℕ, _<_}
 use lib.ListN.{getD}
 use Rattle.table.specs.Numbers.{numberOf}
@@ -11,7 +11,8 @@ use Rattle.fabric.specs.Walks.{walked, switchAt}
 use Rattle.scheme.specs.Tags.{tags, destination, stepsOf}
 use Rattle.paths.specs.Clear.{Rule, Clear}
 use Rattle.book.specs.declared.Book.{Book}
-use Rattle.book.specs.Standing.{stopsOf, unsound}
+use Rattle.book.specs.Standing.{stopsOf}
+use Rattle.book.specs.Entries.{bookChecks}
 use Rattle.walks.specs.declared.Ended.{Ended}
 
 -- The number and values of each answer: 11 comes with a stage. `clear-exactly`, `eleven-exactly` and `seventeen-exactly` (proofs/Entries.antt)
@@ -24,7 +25,7 @@ walkSays (Ended.Refused r) = refused (numberOf r)
 
 -- "walk (book, source, tag): 16, 10, 12", and then. `walk-order` reads the numbers off, `walk-lets-pass` says what passes.
 abbrev pub walkChecks : Book → ℕ → ℕ → List Check
-walkChecks b s tag = (16 when unsound b) ∷ (10 when s notBelow size (b .n)) ∷ (12 when tag notBelow tags (b .n)) ∷ []
+walkChecks b s tag = bookChecks b ++ (10 when s notBelow size (b .n)) ∷ (12 when tag notBelow tags (b .n)) ∷ []
 
 -- "the first stage whose link is stopped": `first-stopped-least` and `least-stopped-first` say that it is the least such stage
 pub record FirstStopped (n : ℕ) (stops : Rule) (s : ℕ) (cs : List ℕ) (i : ℕ) : Type 0 where

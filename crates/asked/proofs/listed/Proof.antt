@@ -17,7 +17,6 @@ use Rattle.book.specs.Entries.{listingSays, listingChecks}
 use Rattle.places.proofs.Arrays.{length-mapped}
 use Rattle.book.proofs.Filings.{sound-passes}
 use Rattle.book.proofs.Filings.{length-standing}
-use Rattle.actions.proofs.Listings.{length-rows}
 use Rattle.asked.proofs.listed.Statement.{statement}
 use Rattle.asked.proofs.listed.Tie as tie
 
@@ -31,8 +30,7 @@ returns c =
     let m = start .args .memory .now in
     let n : length (b .notices) ≡ 48 = search (needs, length-mapped) in
     let l = length-standing b (start .pre) n in
-    let r = length-rows (standing b) in
-    let g : Given 13 (listingChecks b m) = later (sound-passes b (start .pre)) (here (lt-ltb (length m) (length (rows (standing b))) (omega arith)) refl) in
+    let g : Given 13 (listingChecks b m) = later (sound-passes b (start .pre)) (here (lt-ltb (length m) (10 * length (standing b)) (omega arith)) refl) in
     record { says = sym (given-refuses refused _ 13 (listingChecks b m) g); leaves = sym (given-refuses (λ k. m) _ 13 (listingChecks b m) g) }
 
 laid-requires : tie.Need-laid-requires
@@ -48,11 +46,10 @@ returns-2 c =
     let m = start .args .memory .now in
     let n : length (b .notices) ≡ 48 = search (needs, length-mapped) in
     let l = length-standing b (start .pre) n in
-    let r = length-rows (standing b) in
-    let p : Passed (listingChecks b m) = passes (sound-passes b (start .pre)) (passes (le-ltb (length m) (length (rows (standing b))) (omega arith)) none) in
+    let p : Passed (listingChecks b m) = passes (sound-passes b (start .pre)) (passes (le-ltb (length m) (10 * length (standing b)) (omega arith)) none) in
     record {
       says = sym (passed-accepts refused _ (listingChecks b m) p ∙ ap (λ k. listingSays (Listing.Listed k)) l);
-      leaves = c .before .before .laid .ensures ∙ ap (λ k. rows (standing b) ++ drop k m) (ap (λ k. 10 * k) (sym l) ∙ sym r) ∙ sym (passed-accepts (λ k. m) _ (listingChecks b m) p);
+      leaves = c .before .before .laid .ensures ∙ ap (λ k. rows (standing b) ++ drop k m) (ap (λ k. 10 * k) (sym l)) ∙ sym (passed-accepts (λ k. m) _ (listingChecks b m) p);
     }
 
 pub listed-spec : {M : Type 1} → statement M
