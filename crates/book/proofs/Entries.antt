@@ -3,7 +3,7 @@
 use mathlib.Core.Path.{_≡_, refl, sym, ap, _∙_}
 use mathlib.Core.Bool.{Bool, true, false, not, _||_, true≢false}
 use mathlib.Core.List.{List, [], _∷_, _++_, List·Memᴰ}
-use mathlib.Core.Logic.{_⊎_, inl, inr, _↔_}
+use mathlib.Core.Logic.{_⊎_, inl, inr, ⊎-elim, _↔_}
 use Prim.Native.Nat.{ℕ, zero, suc, _*_, _≤_, _<_}
 use native.Mathlib.Omega.{arith}
 use native.Mathlib.Decide.{ℕ-discrete}
@@ -25,13 +25,13 @@ use Rattle.book.specs.declared.Kept.{Kept}
 use Rattle.book.specs.declared.Answer.{Answer}
 use Rattle.book.specs.declared.Link.{Link}
 use Rattle.book.specs.declared.Listing.{Listing}
-use Rattle.standing.specs.Rising.{stands}
+use Rattle.standing.specs.Rising.{stands, insert, without}
 use Rattle.actions.specs.Rows.{rows}
-use Rattle.book.specs.Standing.{standing, unsound, Stopped, stopsOf}
-use Rattle.book.specs.Entries.{answerSays, linkSays, listingSays, HandsBack, openChecks, opened, Opens, bookChecks, fileChecks, Files, withdrawChecks, Withdraws, linkChecks, Tests, listingChecks, Lists}
+use Rattle.book.specs.Standing.{standing, unsound, Sound, Stopped, stopsOf}
+use Rattle.book.specs.Entries.{answerSays, linkSays, listingSays, HandsBack, openChecks, opened, Opens, bookChecks, fileChecks, filed, Files, withdrawChecks, withdrawn, Withdraws, linkChecks, Tests, listingChecks, Lists}
 use Rattle.actions.proofs.Listings.{length-rows}
-use Rattle.standing.proofs.Members.{stands-member, member-stands}
-use Rattle.book.proofs.Filings.{sound-if}
+use Rattle.standing.proofs.Members.{stands-member, member-stands, insert-has, insert-keeps, insert-member, without-keeps, without-member}
+use Rattle.book.proofs.Filings.{standing-of, sound-if}
 use Rattle.book.proofs.Stoppers.{stopper-none, stopper-some}
 
 -- a check that is passed, by its place
@@ -254,3 +254,19 @@ module _ (b : Book) (before after : List ℕ) (r : Listing) (lists : Lists b bef
   refused-listing-writes-nothing why e =
       let g = refused-given (listingChecks b before) (length (standing b) ∷ []) (numberOf why) (sym (ap listingSays e) ∙ lists .says) in
       lists .leaves ∙ given-refuses (λ k. before) (rows (standing b) ++ drop (10 * length (standing b)) before) (numberOf why) (listingChecks b before) g
+
+-- what stands in the book that an accepted filing makes: that notice, what stood, and no other
+pub filed-standing : (b : Book) (x y : Notice) → List·Memᴰ y (standing (filed b x)) ↔ ((y ≡ x) ⊎ List·Memᴰ y (standing b))
+filed-standing b x y =
+    let e = standing-of (b .n) (insert x (standing b)) in (
+      (λ m. insert-member y x (standing b) (rw e at m)),
+      ⊎-elim (λ s. rw (e, s) (insert-has x (standing b))) (λ m. rw e (insert-keeps y x (standing b) m)),
+    )
+
+-- and in the one that an accepted withdrawing makes: what stood, but for the notice of that number
+pub withdrawn-standing : (b : Book) (k : ℕ) (y : Notice) → Sound b → List·Memᴰ y (standing (withdrawn b k)) ↔ (List·Memᴰ y (standing b) × (y .number ≡ k → ⊥))
+withdrawn-standing b k y sound =
+    let e = standing-of (b .n) (without k (standing b)) in (
+      (λ m. without-member (b .n) 0 k y (standing b) (sound .filed) (rw e at m)),
+      (λ w. rw e (without-keeps k y (standing b) (w .0) (w .1))),
+    )

@@ -6,7 +6,7 @@ use Prim.Native.Nat.{ℕ, zero, suc, _-_, _<_}
 use native.Mathlib.Omega.{arith}
 use borrow.Author.Tests.{ltb-false, le-ltb}
 use lib.ListN.{length, getD, replicate, length-drop, take-append-drop}
-use lib.Seq.{length-take-le, getD-take}
+use lib.Seq.{length-take-le, getD-take, take-append-seam}
 use Rattle.table.proofs.Checks.{neither, neither-of}
 use Rattle.table.specs.Checks.{_below_}
 use Rattle.fabric.specs.Labels.{outsideSizes}
@@ -14,7 +14,11 @@ use Rattle.standing.proofs.Filings.{filed-if, filed-passes, unlittered, filler-
 use Rattle.book.specs.declared.Book.{Book}
 use Rattle.notices.specs.declared.Notice.{Notice}
 use Rattle.standing.specs.Rising.{filler, Filed, misfiled, littered}
-use Rattle.book.specs.Standing.{standing, unused, unsound, Sound}
+use Rattle.book.specs.Standing.{standing, unused, bookOf, unsound, Sound}
+
+-- the notices of a list stand in the book that is made of them
+pub standing-of : (n : ℕ) (l : List Notice) → standing (bookOf n l) ≡ l
+standing-of n l = take-append-seam l (replicate (48 - length l) filler)
 
 -- what a book that passes the test of 16 is like
 pub sound-if : (b : Book) → length (b .notices) ≡ 48 → unsound b ≡ false → Sound b

@@ -8,9 +8,4 @@ pub mod Testing
 -- what the entries check, say and leave
 pub mod Entries
 -- number 16 exactly, demand 3, and no second answer
-pub mod Runs
-pub mod Changes
-pub mod Sounds
-pub mod Reach
-pub mod Since
 pub mod Once

@@ -78,8 +78,7 @@ fileChecks b x =
 abbrev pub withdrawChecks : Book → ℕ → List Check
 withdrawChecks b k = bookChecks b ++ (3 when eqb k 0) ∷ (9 when not (stands k (standing b))) ∷ []
 
--- The book that an accepted filing makes, and an accepted withdrawing: `filed-stands`, `stands-on` and `stood-or-filed` (proofs/Changes.antt) say
--- what stands in it.
+-- The book that an accepted filing makes, and an accepted withdrawing: `filed-standing` and `withdrawn-standing` say what stands in it.
 abbrev pub filed : Book → Notice → Book
 filed b x = bookOf (b .n) (insert x (standing b))
 

@@ -5,10 +5,10 @@ use mathlib.Core.Logic.{_↔_}
 use Prim.Native.Nat.{ℕ, _≤_}
 use Rattle.table.proofs.Checks.{zero-one, accepted-passed, passed-accepts}
 use Rattle.table.specs.Reply.{Reply, refused}
 use Rattle.book.specs.declared.Book.{Book}
 use Rattle.book.specs.Entries.{openChecks, opened}
-use Rattle.book.specs.Runs.{Change, after, Accepted, run, AllAccepted, Reachable, NotWithdrawn}
+use Rattle.runs.specs.Runs.{Change, after, Accepted, run, AllAccepted, Reachable, NotWithdrawn}
 use Rattle.book.proofs.Entries.{open-lets-pass}
 
 -- a run of nothing, of one change, and of some changes and then others
 pub run-none : (b : Book) → run [] b ≡ b

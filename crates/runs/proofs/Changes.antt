@@ -7,24 +7,22 @@ use Prim.Native.Nat.{ℕ, suc, _-_, _≤_, _<_}
 use native.Mathlib.Omega.{arith}
 use borrow.Author.Tests.{eqb-false, leb-false, le-ltb}
 use lib.ListN.{length, getD, replicate}
-use lib.Seq.{take-append-seam, drop-append-seam}
+use lib.Seq.{drop-append-seam}
 use Rattle.table.proofs.Checks.{neither-of, given-refuses, passed-accepts, given-or-passed, passed-nth, zero-one}
 use Rattle.table.specs.Reply.{Reply, refused}
 use Rattle.table.specs.Checks.{Given, Passed, _when_, _below_}
 use Rattle.fabric.specs.Labels.{outsideSizes}
 use Rattle.notices.specs.declared.Notice.{Notice}
 use Rattle.book.specs.declared.Book.{Book}
 use Rattle.notices.specs.Targets.{unfit}
 use Rattle.standing.specs.Rising.{filler, insert, without, Filed, misfiled, littered}
 use Rattle.book.specs.Standing.{standing, unused, bookOf, unsound}
 use Rattle.book.specs.declared.Kept.{Kept}
 use Rattle.book.specs.Entries.{answerSays, opened, Opens, Files, Withdraws, fileChecks}
-use Rattle.book.specs.Runs.{Change, changeChecks, changed, answer, after, Accepted}
+use Rattle.book.proofs.Filings.{standing-of}
+use Rattle.runs.specs.Runs.{Change, changeChecks, changed, answer, after, Accepted}
 use Rattle.standing.proofs.Filings.{filed-passes, filler-unlittered}
 use Rattle.standing.proofs.Members.{insert-filed, insert-length, insert-member, insert-has, insert-keeps, without-filed, without-length, without-member, without-keeps}
-
-pub standing-of : (n : ℕ) (l : List Notice) → standing (bookOf n l) ≡ l
-standing-of n l = take-append-seam l (replicate (48 - length l) filler)
 
 pub sound-of : (n : ℕ) (l : List Notice) → outsideSizes n ≡ false → Filed n 0 l → length l ≤ 48 → unsound (bookOf n l) ≡ false
 sound-of n l size f h =

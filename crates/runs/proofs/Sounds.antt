@@ -11,13 +11,13 @@ use Rattle.table.proofs.Checks.{neither-of}
 use Rattle.fabric.specs.Labels.{outsideSizes}
 use Rattle.notices.specs.declared.Notice.{Notice}
 use Rattle.standing.specs.Rising.{filler, Filed}
 use Rattle.book.specs.declared.Book.{Book}
 use Rattle.book.specs.declared.Kept.{Kept}
 use Rattle.book.specs.Standing.{standing, bookOf, Sound}
 use Rattle.book.specs.Entries.{Opens, Files, Withdraws}
-use Rattle.book.specs.Runs.{Change, after}
-use Rattle.book.proofs.Filings.{length-standing, split}
-use Rattle.book.proofs.Changes.{standing-of, good-after}
+use Rattle.runs.specs.Runs.{Change, after}
+use Rattle.book.proofs.Filings.{standing-of, length-standing, split}
+use Rattle.runs.proofs.Changes.{good-after}
 
 -- the sizes of 01, as the test of them says
 pub size-passes : (n : ℕ) → 1 ≤ n → n ≤ 12 → outsideSizes n ≡ false

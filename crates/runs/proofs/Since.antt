@@ -15,20 +15,20 @@ use Rattle.table.specs.Reply.{Reply, refused}
 use Rattle.table.specs.Checks.{Passed.none, Passed.passes}
 use Rattle.fabric.specs.Labels.{size, outsideSizes}
 use Rattle.notices.specs.declared.Notice.{Notice}
 use Rattle.book.specs.declared.Book.{Book}
 use Rattle.book.specs.declared.Link.{Link}
 use Rattle.notices.specs.Targets.{names}
 use Rattle.book.specs.Standing.{standing, bookOf, Stopped, stopper}
 use Rattle.book.specs.Entries.{opened, linkChecks, linkSays, Tests}
 use Rattle.book.proofs.Testing.{tests-says}
-use Rattle.book.specs.Runs.{NamedSince, Change, after, Accepted, run, AllAccepted, NotWithdrawn, StandsSince}
+use Rattle.runs.specs.Runs.{NamedSince, Change, after, Accepted, run, AllAccepted, NotWithdrawn, StandsSince}
 use Rattle.standing.specs.Rising.{Distinct}
 use Rattle.standing.proofs.Members.{filed-distinct}
-pub use Rattle.book.proofs.Runs.{run-on}
-use Rattle.book.proofs.Changes.{Good, good-after, filed-stands, stands-on, stood-or-filed}
-use Rattle.book.proofs.Reach.{good-run, good-sound, opened-good, opened-is, any-order}
+pub use Rattle.runs.proofs.Runs.{run-on}
+use Rattle.runs.proofs.Changes.{Good, good-after, filed-stands, stands-on, stood-or-filed}
+use Rattle.runs.proofs.Reach.{good-run, good-sound, opened-good, opened-is, any-order}
 use Rattle.book.proofs.Stoppers.{stopper-some}
 use Rattle.book.proofs.Once.{link-tells}
 
 module _ (n : ℕ) (x : Notice) where
   stays : (changes : List Change) (b : Book) → Good n b → List·Memᴰ x (standing b) → NotWithdrawn (x .number) changes b → List·Memᴰ x (standing (run changes b))
