@@ -62,7 +62,7 @@ pub record RunsBy (sheet : List ℕ) (header : Header) (before : List ℕ) (answ
   pub refuses : (k : ℕ) → Given k (runChecks header before) → (ranSays answer ≡ refused k) × (after ≡ before)
   pub prints : Passed (runChecks header before) → Printed sheet header before answer after
 
--- the sheet's own header says which (`run-by-header`)
+-- a run is by its sheet's own header (`run-by-header`)
 pub record Runs (sheet before : List ℕ) (answer : Ran) (after : List ℕ) : Type 0 where
   pub header : Header
   pub reads : ReadsHeader sheet header
