@@ -20,12 +20,12 @@ abbrev pub unused : Book → List Notice
 unused b = drop (b .count) (b .notices)
 
 -- The book of a fabric of n stages in which the notices of a list stand (`standing-of`, proofs/Filings.antt). "At most 48 notices": `run-at-most-48`
--- (runs/proofs/Since.antt).
+-- (changes/proofs/Since.antt).
 abbrev pub bookOf : ℕ → List Notice → Book
 bookOf n l = record { n = n; count = length l; notices = l ++ replicate (48 - length l) filler }
 
 -- The test behind 16, "a book that an accepted opening, filing and withdrawing cannot produce": `reachable-sound` and
--- `sound-reachable` (runs/proofs/Reach.antt) say that it is that sentence exactly.
+-- `sound-reachable` (changes/proofs/Reach.antt) say that it is that sentence exactly.
 abbrev pub unsound : Book → Bool
 unsound b = outsideSizes (b .n) || 48 below b .count || misfiled (b .n) 0 (standing b) || littered (unused b)
 

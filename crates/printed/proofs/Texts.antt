@@ -18,8 +18,8 @@ use Rattle.table.proofs.Numbers.{above-zero}
 use Rattle.fabric.specs.Labels.{outsideSizes}
 use Rattle.book.specs.declared.Book.{Book}
 use Rattle.book.specs.Standing.{standing, bookOf}
-use Rattle.runs.proofs.Changes.{standing-of}
-use Rattle.runs.proofs.Reach.{opened-is}
+use Rattle.changes.proofs.Changes.{standing-of}
+use Rattle.changes.proofs.Reach.{opened-is}
 use Rattle.sheet.specs.declared.Header.{Header}
 use Rattle.sheet.specs.Entries.{partOf}
 use Rattle.printed.specs.Words.{ascii, decimal}

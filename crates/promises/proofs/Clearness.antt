@@ -12,10 +12,10 @@ use Rattle.paths.specs.Clear.{Clear}
 use Rattle.book.specs.declared.Book.{Book}
 use Rattle.book.specs.Standing.{standing, stopper, stopsOf}
 use Rattle.book.specs.Entries.{opened}
-use Rattle.runs.specs.Runs.{Change, run}
-use Rattle.runs.proofs.Changes.{Good}
-use Rattle.runs.proofs.Reach.{good-run, opened-good, opened-is}
-use Rattle.runs.proofs.Since.{stands-exactly}
+use Rattle.changes.specs.Runs.{Change, run}
+use Rattle.changes.proofs.Changes.{Good}
+use Rattle.changes.proofs.Reach.{good-run, opened-good, opened-is}
+use Rattle.changes.proofs.Since.{stands-exactly}
 use Rattle.book.proofs.Stoppers.{stopper-none}
 use Rattle.promises.specs.Clearness.{UnnamedSince}
 

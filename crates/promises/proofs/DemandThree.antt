@@ -11,10 +11,10 @@ use Rattle.book.specs.declared.Kept.{Kept}
 use Rattle.book.specs.declared.Link.{Link}
 use Rattle.book.specs.declared.Listing.{Listing}
 use Rattle.book.specs.Entries.{opened, Files, Withdraws, Tests, Lists}
-use Rattle.runs.specs.Runs.{Change, run, AllAccepted, StandsSince}
+use Rattle.changes.specs.Runs.{Change, run, AllAccepted, StandsSince}
 use Rattle.standing.specs.Rising.{Distinct, Reordered}
 use Rattle.standing.proofs.Distinct.{distinct-reordered}
-use Rattle.runs.proofs.Since.{same-book}
+use Rattle.changes.proofs.Since.{same-book}
 use Rattle.book.proofs.Once.{files-once, withdraws-once, tests-once, lists-once}
 use Rattle.walks.specs.declared.Ended.{Ended}
 use Rattle.routes.specs.declared.Found.{Found}

@@ -21,8 +21,8 @@ use Rattle.book.specs.Standing.{standing, stopper, stopsOf}
 use Rattle.standing.specs.Rising.{stands, insert, without, misfiled, littered}
 use Rattle.book.specs.declared.Link.{Link}
 use Rattle.book.specs.Entries.{opened, linkChecks, Tests}
-use Rattle.runs.specs.Runs.{Change, changeChecks, after, run, AllAccepted}
-use Rattle.runs.proofs.Changes.{taken}
+use Rattle.changes.specs.Runs.{Change, changeChecks, after, run, AllAccepted}
+use Rattle.changes.proofs.Changes.{taken}
 use Rattle.book.proofs.Answers.{link-stopped}
 use Rattle.routes.specs.declared.Found.{Found}
 use Rattle.routes.specs.Routed.{Routed, routeChecks, Routes}

@@ -17,7 +17,7 @@ use Rattle.book.specs.declared.Answer.{Answer}
 use Rattle.book.specs.declared.Link.{Link}
 use Rattle.book.specs.Standing.{stopper}
 use Rattle.book.specs.Entries.{opened}
-use Rattle.runs.specs.Runs.{Change, run}
+use Rattle.changes.specs.Runs.{Change, run}
 use Rattle.routes.specs.declared.Found.{Found}
 use Rattle.promises.specs.Controllers.{Controller, SaysElevenAlways, GivesTagZeroAlways, InventsAStage, RefusesEveryFiling, LooksOnlyWhereItStands, GivesUp, NeverWithdrawn, Holds, Named, FilesNothing, StoresTheFirstOnly, OpensForBoth, PlusAndMinusOneLink}
 use Rattle.promises.proofs.Examples.{row-holds}

@@ -21,9 +21,9 @@ use Rattle.book.specs.declared.Link.{Link}
 use Rattle.book.specs.Standing.{standing, stopper, stopsOf}
 use Rattle.book.proofs.Testing.{says-tests}
 use Rattle.book.specs.Entries.{answerSays, linkSays, opened, fileChecks, withdrawChecks, linkChecks, Tests}
-use Rattle.runs.specs.Runs.{Change, changeChecks, answer, after, Accepted, run, NotWithdrawn, StandsSince}
+use Rattle.changes.specs.Runs.{Change, changeChecks, answer, after, Accepted, run, NotWithdrawn, StandsSince}
 use Rattle.book.proofs.Once.{answer-tells}
-use Rattle.runs.proofs.Since.{link-exactly}
+use Rattle.changes.proofs.Since.{link-exactly}
 use Rattle.routes.specs.declared.Found.{Found}
 use Rattle.routes.specs.Routed.{routeSays, Routed, routeChecks, Routes}
 use Rattle.promises.specs.Controllers.{Controller, FilesAsPromised, RoutesAsPromised, Accepts, ownRun, NeverWithdrawn, Holds, Named, StopsWhatIsNamed}

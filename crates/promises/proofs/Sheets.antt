@@ -7,10 +7,10 @@ use Prim.Native.Nat.{ℕ}
 use Rattle.notices.specs.declared.Notice.{Notice}
 use Rattle.book.specs.declared.Book.{Book}
 use Rattle.book.specs.Entries.{opened}
-use Rattle.runs.specs.Runs.{Change, run, StandsSince}
+use Rattle.changes.specs.Runs.{Change, run, StandsSince}
 use Rattle.standing.specs.Rising.{Distinct}
-use Rattle.runs.proofs.Changes.{opens-leaves, files-change, withdraws-change}
-use Rattle.runs.proofs.Since.{run-on, same-book}
+use Rattle.changes.proofs.Changes.{opens-leaves, files-change, withdraws-change}
+use Rattle.changes.proofs.Since.{run-on, same-book}
 use Rattle.actions.specs.declared.Action.{Action}
 use Rattle.sheet.specs.declared.Header.{Header}
 use Rattle.sheet.specs.Entries.{partOf}

@@ -20,7 +20,7 @@ use Rattle.book.specs.declared.Link.{Link}
 use Rattle.book.specs.Standing.{stopper, stopsOf}
 use Rattle.standing.specs.Rising.{stands, insert, misfiled, littered}
 use Rattle.book.specs.Entries.{answerSays, opened}
-use Rattle.runs.specs.Runs.{Change, run}
+use Rattle.changes.specs.Runs.{Change, run}
 use Rattle.routes.specs.declared.Found.{Found}
 use Rattle.routes.specs.Routed.{Routed, routeChecks, Routes}
 use Rattle.routes.proofs.Entries.{route-once}

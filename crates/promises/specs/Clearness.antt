@@ -8,7 +8,7 @@ use Rattle.fabric.specs.Walks.{switchAt}
 use Rattle.notices.specs.declared.Notice.{Notice}
 use Rattle.notices.specs.Targets.{names}
 use Rattle.book.specs.Entries.{opened}
-use Rattle.runs.specs.Runs.{Change, StandsSince}
+use Rattle.changes.specs.Runs.{Change, StandsSince}
 
 -- no link of a walk from s is named by a notice that was accepted in a run and not withdrawn since
 abbrev pub UnnamedSince : ℕ → List Change → ℕ → List ℕ → Type 0

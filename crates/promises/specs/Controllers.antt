@@ -20,7 +20,7 @@ use Rattle.book.specs.declared.Answer.{Answer}
 use Rattle.book.specs.declared.Link.{Link}
 use Rattle.book.specs.Standing.{stopsOf}
 use Rattle.book.specs.Entries.{Files}
-use Rattle.runs.specs.Runs.{Change}
+use Rattle.changes.specs.Runs.{Change}
 use Rattle.routes.specs.declared.Found.{Found}
 use Rattle.routes.specs.Routed.{routeChecks, Routes}
 

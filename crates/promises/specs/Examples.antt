@@ -8,7 +8,7 @@ use Rattle.tags.specs.Entries.{TagToSteps, NormalForm}
 use Rattle.notices.specs.declared.Target.the-variants.{Links}
 use Rattle.book.specs.declared.Link.{Link}
 use Rattle.book.specs.Entries.{opened, Tests}
-use Rattle.runs.specs.Runs.{Change, run, AllAccepted}
+use Rattle.changes.specs.Runs.{Change, run, AllAccepted}
 use Rattle.routes.specs.declared.Found.{Found}
 use Rattle.routes.specs.Routed.{Routes}
 

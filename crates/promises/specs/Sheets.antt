@@ -2,7 +2,7 @@
 -- the run of a sheet.
 use mathlib.Core.List.{List, [], _∷_, _++_}
 use Prim.Native.Nat.{ℕ, suc}
-use Rattle.runs.specs.Runs.{Change}
+use Rattle.changes.specs.Runs.{Change}
 use Rattle.actions.specs.declared.Action.{Action}
 use Rattle.sheet.specs.Entries.{partOf}
 use Rattle.actions.specs.Entries.{ReadsAction}

@@ -5,7 +5,7 @@ use native.Mathlib.Numerals.{add-one}
 use mathlib.Core.Path.{_≡_}
 use borrow.Author.Needs.{needs}
 use Rattle.book.specs.Standing.{Sound}
-use Rattle.runs.proofs.Sounds.{opens-sound}
+use Rattle.changes.proofs.Sounds.{opens-sound}
 use Rattle.handed.specs.Books.{After, After.start, After.more}
 use Rattle.handed.proofs.after_all.Statement.{statement}
 use Rattle.handed.proofs.after_all.Tie as tie

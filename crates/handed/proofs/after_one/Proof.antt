@@ -3,7 +3,7 @@ use mathlib.Core.Path.{_≡_, refl}
 use borrow.Author.Needs.{needs}
 use lib.ListN.{length}
 use Rattle.places.proofs.Arrays.{length-mapped}
-use Rattle.runs.proofs.Sounds.{files-sound, withdraws-sound}
+use Rattle.changes.proofs.Sounds.{files-sound, withdraws-sound}
 use Rattle.handed.proofs.after_one.Statement.{statement}
 use Rattle.handed.proofs.after_one.Tie as tie
 

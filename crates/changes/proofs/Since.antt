@@ -21,12 +21,12 @@ use Rattle.notices.specs.Targets.{names}
 use Rattle.book.specs.Standing.{standing, bookOf, Stopped, stopper}
 use Rattle.book.specs.Entries.{opened, linkChecks, linkSays, Tests}
 use Rattle.book.proofs.Testing.{tests-says}
-use Rattle.runs.specs.Runs.{NamedSince, Change, after, Accepted, run, AllAccepted, NotWithdrawn, StandsSince}
+use Rattle.changes.specs.Runs.{NamedSince, Change, after, Accepted, run, AllAccepted, NotWithdrawn, StandsSince}
 use Rattle.standing.specs.Rising.{Distinct}
 use Rattle.standing.proofs.Members.{filed-distinct}
-pub use Rattle.runs.proofs.Runs.{run-on}
-use Rattle.runs.proofs.Changes.{Good, good-after, filed-stands, stands-on, stood-or-filed}
-use Rattle.runs.proofs.Reach.{good-run, good-sound, opened-good, opened-is, any-order}
+pub use Rattle.changes.proofs.Runs.{run-on}
+use Rattle.changes.proofs.Changes.{Good, good-after, filed-stands, stands-on, stood-or-filed}
+use Rattle.changes.proofs.Reach.{good-run, good-sound, opened-good, opened-is, any-order}
 use Rattle.book.proofs.Stoppers.{stopper-some}
 use Rattle.book.proofs.Once.{link-tells}
 

@@ -19,12 +19,12 @@ use Rattle.notices.specs.Targets.{outsideFabric, badField, tooWide}
 use Rattle.standing.specs.Rising.{stands, insert, Filed, Distinct}
 use Rattle.book.specs.Standing.{standing, bookOf, unsound}
 use Rattle.book.specs.Entries.{openChecks, opened, fileChecks}
-use Rattle.runs.specs.Runs.{Change, after, Accepted, run, AllAccepted, Reachable}
+use Rattle.changes.specs.Runs.{Change, after, Accepted, run, AllAccepted, Reachable}
 use Rattle.book.proofs.Filings.{sound-if}
 use Rattle.book.proofs.Filings.{standing-of, length-standing}
-use Rattle.runs.proofs.Sounds.{size-passes, whole}
+use Rattle.changes.proofs.Sounds.{size-passes, whole}
 use Rattle.standing.proofs.Members.{Within, all-above, all-fit, one-number, filed-distinct, stands-member, insert-filed, insert-length, insert-member, insert-has, insert-keeps, within-length, same-notices}
-use Rattle.runs.proofs.Changes.{sound-of, Good, good-of, good-after, taken}
+use Rattle.changes.proofs.Changes.{sound-of, Good, good-of, good-after, taken}
 
 pub good-run : (n : ℕ) (changes : List Change) (b : Book) → Good n b → Good n (run changes b)
 unfolding run

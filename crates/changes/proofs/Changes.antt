@@ -20,7 +20,7 @@ use Rattle.book.specs.Standing.{standing, unused, bookOf, unsound}
 use Rattle.book.specs.declared.Kept.{Kept}
 use Rattle.book.specs.Entries.{answerSays, opened, Opens, Files, Withdraws, fileChecks}
 use Rattle.book.proofs.Filings.{standing-of}
-use Rattle.runs.specs.Runs.{Change, changeChecks, changed, answer, after, Accepted}
+use Rattle.changes.specs.Runs.{Change, changeChecks, changed, answer, after, Accepted}
 use Rattle.standing.proofs.Filings.{filed-passes, filler-unlittered}
 use Rattle.standing.proofs.Members.{insert-filed, insert-length, insert-member, insert-has, insert-keeps, without-filed, without-length, without-member, without-keeps}
 

@@ -15,9 +15,9 @@ use Rattle.book.specs.declared.Book.{Book}
 use Rattle.book.specs.declared.Kept.{Kept}
 use Rattle.book.specs.Standing.{standing, bookOf, Sound}
 use Rattle.book.specs.Entries.{Opens, Files, Withdraws}
-use Rattle.runs.specs.Runs.{Change, after}
+use Rattle.changes.specs.Runs.{Change, after}
 use Rattle.book.proofs.Filings.{standing-of, length-standing, split}
-use Rattle.runs.proofs.Changes.{good-after}
+use Rattle.changes.proofs.Changes.{good-after}
 
 -- the sizes of 01, as the test of them says
 pub size-passes : (n : ℕ) → 1 ≤ n → n ≤ 12 → outsideSizes n ≡ false

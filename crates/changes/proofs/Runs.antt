@@ -7,7 +7,7 @@ use Rattle.table.proofs.Checks.{zero-one, accepted-passed, passed-accepts}
 use Rattle.table.specs.Reply.{Reply, refused}
 use Rattle.book.specs.declared.Book.{Book}
 use Rattle.book.specs.Entries.{openChecks, opened}
-use Rattle.runs.specs.Runs.{Change, after, Accepted, run, AllAccepted, Reachable, NotWithdrawn}
+use Rattle.changes.specs.Runs.{Change, after, Accepted, run, AllAccepted, Reachable, NotWithdrawn}
 use Rattle.book.proofs.Entries.{open-lets-pass}
 
 -- a run of nothing, of one change, and of some changes and then others
