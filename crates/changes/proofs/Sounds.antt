@@ -17,7 +17,7 @@ use Rattle.book.specs.Standing.{standing, bookOf, Sound}
 use Rattle.book.specs.Entries.{Opens, Files, Withdraws}
 use Rattle.changes.specs.Runs.{Change, after}
 use Rattle.book.proofs.Filings.{standing-of, length-standing, split}
-use Rattle.changes.proofs.Changes.{good-after}
+use Rattle.changes.proofs.Changes.{Good}
 
 -- the sizes of 01, as the test of them says
 pub size-passes : (n : ℕ) → 1 ≤ n → n ≤ 12 → outsideSizes n ≡ false
@@ -40,20 +40,6 @@ sound-book n l some few filed fits =
       rest = drop-append-seam l (replicate (48 - length l) filler);
     }
 
-pub opens-sound : (n : ℕ) (r : Kept) → 1 ≤ n → n ≤ 12 → Opens n r → Sound (r .book)
-unfolding Filed
-opens-sound n r some few o = subst Sound (sym (o .leaves ∙ rw (size-passes n some few))) (sound-book n [] some few tt (omega arith))
-
-module _ (b : Book) (places : length (b .notices) ≡ 48) (sound : Sound b) where
-  pub sound-after : (a : Change) → Sound (after a b)
-  sound-after a =
-      let l = length-standing b sound places in
-      let f = sound .fits in
-      let g = good-after (b .n) b (record { whole = sym (whole b sound places); filed = sound .filed; fits = omega arith }) a in
-      subst Sound (sym (g .whole)) (sound-book (b .n) (standing (after a b)) (sound .some) (sound .few) (g .filed) (g .fits))
-
-  pub files-sound : (x : Notice) (r : Kept) → Files b x r → Sound (r .book)
-  files-sound x r p = subst Sound (sym (p .leaves)) (sound-after (Change.file x))
-
-  pub withdraws-sound : (k : ℕ) (r : Kept) → Withdraws b k r → Sound (r .book)
-  withdraws-sound k r p = subst Sound (sym (p .leaves)) (sound-after (Change.withdraw k))
+-- a book as accepted changes make it is sound
+pub good-is-sound : (n : ℕ) (b : Book) → 1 ≤ n → n ≤ 12 → Good n b → Sound b
+good-is-sound n b some few g = subst Sound (sym (g .whole)) (sound-book n (standing b) some few (g .filed) (g .fits))

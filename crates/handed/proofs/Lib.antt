@@ -1,6 +1,4 @@
 -- how the functions over a book meet their promises
 pub mod Overs
--- one book, and no second answer over it
+-- no second answer over the book of a sheet
 pub mod Once
--- it is the book of the sheet's run
-pub mod Runs

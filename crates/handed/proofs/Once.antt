@@ -11,39 +11,17 @@ use Rattle.book.specs.declared.Book.{Book}
 use Rattle.book.specs.declared.Kept.{Kept}
 use Rattle.book.specs.declared.Listing.{Listing}
 use Rattle.book.specs.Entries.{listingSays, HandsBack, Lists}
-use Rattle.book.proofs.Once.{opens-once, files-once, withdraws-once, lists-once}
-use Rattle.actions.specs.declared.Action.{Action}
-use Rattle.actions.proofs.Actions.{action-once}
+use Rattle.book.proofs.Once.{lists-once}
+use Rattle.changes.specs.After.{After}
+use Rattle.changes.proofs.After.{after-once}
 use Rattle.sheet.specs.declared.Header.{Header}
 use Rattle.sheet.specs.Entries.{ReadsHeader}
 use Rattle.sheet.proofs.Sheets.{header-once}
-use Rattle.handed.specs.Books.{keptSays, Leaves, After, After.start, After.more, Over, OverSheet, ListedOver, ListsOver}
+use Rattle.handed.specs.Books.{keptSays, Over, OverSheet, ListedOver, ListsOver}
 
 -- open, file and withdraw say what their checks give, and nothing of the book
 pub kept-says : (checks : List Check) (given made : Book) (k : Kept) → HandsBack checks given made k → keptSays k ≡ checked checks refused (Reply.accepted [])
 kept-says checks given made k h = h .says
-
-leaves-once : (a : Action) (b c d : Book) → Leaves a b c → Leaves a b d → c ≡ d
-leaves-once (Action.File x) b c d p q =
-    let same = ap (λ (k : Kept). k .book) (files-once b x (p .0) (q .0) (p .1) (q .1)) in
-    let one = p .2 in
-    let other = q .2 in
-    cc
-leaves-once (Action.Withdraw k) b c d p q =
-    let same = ap (λ (k : Kept). k .book) (withdraws-once b k (p .0) (q .0) (p .1) (q .1)) in
-    let one = p .2 in
-    let other = q .2 in
-    cc
-leaves-once (Action.Route s t) b c d p q = p ∙ sym q
-leaves-once (Action.Refused why) b c d p q = p ∙ sym q
-
--- one book
-pub after-once : (sheet : List ℕ) (n k : ℕ) (b c : Book) → After sheet n k b → After sheet n k c → b ≡ c
-after-once sheet n k b c (start {r = q} p) (start {r = r} o) = ap (λ (z : Kept). z .book) (opens-once n q r p o)
-after-once sheet n k b c (more {k = j} {b = b₁} {a = x} v r l) (more {b = b₂} {a = y} w s m) =
-    let e = after-once sheet n j b₁ b₂ v w in
-    let a = action-once _ x y r s in
-    leaves-once y b₂ b c (rw (a, e) at l) m
 
 module _ (sheet : List ℕ) (answers : Book → ℕ → Type 0) (r : ℕ) (o : OverSheet sheet answers r) where
   -- the answer over the book that the sheet makes

@@ -10,7 +10,8 @@ use Rattle.book.specs.Entries.{listingSays, Lists}
 use Rattle.sheet.specs.declared.Header.{Header}
 use Rattle.sheet.specs.Entries.{ReadsHeader}
 use Rattle.packing.specs.Packed.{packed, Tells}
-use Rattle.handed.specs.Books.{After, OverSheet, ListsOver}
+use Rattle.changes.specs.After.{After}
+use Rattle.handed.specs.Books.{OverSheet, ListsOver}
 
 -- the number of an answer that the entry promises
 pub tells : {A : Type 0} (promise : A → Type 0) (says : A → Reply) (a : A) {r : ℕ} → promise a → r ≡ packed (says a) → Tells promise says r

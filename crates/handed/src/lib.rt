@@ -1,9 +1,11 @@
-// The book that a host hands over as a sheet: the one that the sheet's filings and withdrawals make.
+// The book that a host hands over as a sheet: the one after all its actions.
 use actions::Action;
 use book::Book;
+ghost use mathlib.Core.Path.{_≡_};
 ghost use Prim.Native.Nat.{_≤_};
 ghost use Rattle.book.specs.Standing.{Sound};
-ghost use Rattle.handed.specs.Books.{Leaves, After};
+ghost use Rattle.changes.specs.Runs.{run};
+ghost use Rattle.changes.specs.After.{changesOf, After};
 
 // The book after the first `count` actions of a sheet, its routes passed over. It is sound from its opening on, so 16 is not tested.
 pub fn after_all(sheet: &[u8], n: u8, count: u16) -> Book
@@ -24,7 +26,7 @@ pub fn after_all(sheet: &[u8], n: u8, count: u16) -> Book
 
 fn after_one(book: Book, action: Action) -> Book
     requires { ⌜ Sound book ⌝ }
-    ensures { λ r. ⌜ (Leaves action book r) × (Sound r) ⌝ }
+    ensures { λ r. ⌜ r ≡ run (changesOf action) book ⌝ }
 {
     match action {
         Action::File(notice) => {

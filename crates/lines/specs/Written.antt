@@ -5,6 +5,8 @@ use Prim.Native.Nat.{ℕ, _+_, _≤_}
 use Rattle.words.specs.Wrote.{Wrote}
 use Rattle.book.specs.declared.Book.{Book}
 use Rattle.book.specs.declared.Kept.{Kept}
+use Rattle.changes.specs.Runs.{run}
+use Rattle.changes.specs.After.{changesOf}
 use Rattle.actions.specs.declared.Action.{Action}
 use Rattle.printed.specs.Words.{decimal, ending}
 use Rattle.printed.specs.Told.{told}
@@ -21,12 +23,14 @@ pub record NoticeWritten (name : List ℕ) (k : ℕ) (kept : Kept) (before : Lis
 -- one action's line was written at a place, and what is handed on
 pub record LineWritten (n : ℕ) (b : Book) (a : Action) (before : List ℕ) (at : ℕ) (after : List ℕ) (r : Next) : Type 0 where
   pub text : List ℕ
-  pub tells : LineOf n b a text (r .book)
+  pub tells : LineOf n b a text
+  pub leaves : r .book ≡ run (changesOf a) b
   pub wrote : Wrote before at text after (r .at)
   pub short : r .at ≤ at + actionRoom
 
 pub record LineAtWritten (n : ℕ) (b : Book) (part before : List ℕ) (at : ℕ) (after : List ℕ) (r : Next) : Type 0 where
   pub text : List ℕ
-  pub tells : LineAt n b part text (r .book)
+  pub tells : LineAt n b part text
+  pub leaves : r .book ≡ run (changesOf (tells .action)) b
   pub wrote : Wrote before at text after (r .at)
   pub short : r .at ≤ at + actionRoom

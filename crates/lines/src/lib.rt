@@ -10,6 +10,7 @@ use words::refusal_told;
 use words::word;
 ghost use Prim.Native.Nat.{ℕ, _+_, _≤_};
 ghost use lib.ListN.{length};
+ghost use Rattle.book.specs.Standing.{Sound};
 ghost use Rattle.printed.specs.Runs.{actionRoom};
 ghost use Rattle.lines.specs.Written.{NoticeWritten, LineWritten, LineAtWritten};
 
@@ -19,14 +20,14 @@ pub struct Next {
     pub at: usize,
 }
 
-// "a line per action"
+// "a line per action", over a book that 16 is not given for
 pub fn action_line(n: u8, book: Book, part: &[u8], out: &mut [u8], at: usize) -> Next
-    requires { ⌜ (n ≤ 12) × (at + actionRoom ≤ length (now out)) ⌝ }
+    requires { ⌜ (n ≤ 12) × (Sound book) × (at + actionRoom ≤ length (now out)) ⌝ }
     ensures { λ r. ⌜ LineAtWritten n book (now (part .entry)) (now (out .entry)) at (now (out .exit)) r ⌝ }
 {
     match action_bytes::read_action(part) {
-        Action::File(notice) => notice_line(b"FILE ", notice.number, book.file(notice), out, at),
-        Action::Withdraw(k) => notice_line(b"WITHDRAW ", k, book.withdraw(k), out, at),
+        Action::File(notice) => notice_line(b"FILE ", notice.number, book.filed(notice), out, at),
+        Action::Withdraw(k) => notice_line(b"WITHDRAW ", k, book.withdrawn(k), out, at),
         Action::Route {
             source,
             destination,

@@ -26,45 +26,37 @@ use Rattle.actions.proofs.Exactly.{two-exactly}
 use Rattle.printed.specs.Text.{fileLine, withdrawLine, routeLine}
 use Rattle.printed.specs.Lines.{LineOf, LineAt}
 
--- what an action prints and hands on is what its entry answers
-module _ (n : ℕ) (b after : Book) (text : List ℕ) where
-  pub filing-line : (x : Notice) (r : Kept) → Files b x r → LineOf n b (Action.File x) text after
-      → (text ≡ ascii "FILE " ++ decimal (x .number) ++ ending (told (r .answer))) × (after ≡ r .book)
-  filing-line x r f l =
-      let e = files-once b x (l .0) r (l .1) f in
-      (l .2 ∙ ap (λ (k : Kept). fileLine (x .number) (k .answer)) e, l .3 ∙ ap (λ (k : Kept). k .book) e)
+-- what an action prints is what its entry answers
+module _ (n : ℕ) (b : Book) (text : List ℕ) where
+  pub filing-line : (x : Notice) (r : Kept) → Files b x r → LineOf n b (Action.File x) text → text ≡ ascii "FILE " ++ decimal (x .number) ++ ending (told (r .answer))
+  filing-line x r f l = l .2 ∙ ap (λ (k : Kept). fileLine (x .number) (k .answer)) (files-once b x (l .0) r (l .1) f)
 
-  pub withdrawing-line : (k : ℕ) (r : Kept) → Withdraws b k r → LineOf n b (Action.Withdraw k) text after
-      → (text ≡ ascii "WITHDRAW " ++ decimal k ++ ending (told (r .answer))) × (after ≡ r .book)
-  withdrawing-line k r f l =
-      let e = withdraws-once b k (l .0) r (l .1) f in
-      (l .2 ∙ ap (λ (m : Kept). withdrawLine k (m .answer)) e, l .3 ∙ ap (λ (m : Kept). m .book) e)
+  pub withdrawing-line : (k : ℕ) (r : Kept) → Withdraws b k r → LineOf n b (Action.Withdraw k) text → text ≡ ascii "WITHDRAW " ++ decimal k ++ ending (told (r .answer))
+  withdrawing-line k r f l = l .2 ∙ ap (λ (m : Kept). withdrawLine k (m .answer)) (withdraws-once b k (l .0) r (l .1) f)
 
-  pub routing-line : (s d : ℕ) (r : Found) → Routes b s d r → LineOf n b (Action.Route s d) text after
-      → (text ≡ ascii "ROUTE " ++ (decimal s ++ (ascii " " ++ (decimal d ++ ending (foundTold n r))))) × (after ≡ b)
-  routing-line s d r f l =
-      let e = route-once b s d (l .0) r (l .1) f in
-      (l .2 ∙ ap (routeLine n s d) e, l .3)
+  pub routing-line : (s d : ℕ) (r : Found) → Routes b s d r → LineOf n b (Action.Route s d) text
+      → text ≡ ascii "ROUTE " ++ (decimal s ++ (ascii " " ++ (decimal d ++ ending (foundTold n r))))
+  routing-line s d r f l = l .2 ∙ ap (routeLine n s d) (route-once b s d (l .0) r (l .1) f)
 
   -- the line of a part is that of the action that it holds
-  pub line-by-action : (part : List ℕ) (a : Action) → ReadsAction part a → LineAt n b part text after → LineOf n b a text after
+  pub line-by-action : (part : List ℕ) (a : Action) → ReadsAction part a → LineAt n b part text → LineOf n b a text
   line-by-action part a reads l = rw (action-once part (l .action) a (l .reads) reads) at (l .tells)
 
-  refused-line : (part : List ℕ) → ReadsAction part (Action.Refused Refusal.Layout) → LineAt n b part text after → (text ≡ ascii "ACTION REFUSED 2\n") × (after ≡ b)
+  refused-line : (part : List ℕ) → ReadsAction part (Action.Refused Refusal.Layout) → LineAt n b part text → text ≡ ascii "ACTION REFUSED 2\n"
   unfolding decimalIn
   refused-line part r l = line-by-action part (Action.Refused Refusal.Layout) r l
 
-  -- "Check 2 comes before the entry's own.": over any book, ten bytes that no action has print this and leave the book
+  -- "Check 2 comes before the entry's own.": over any book, ten bytes that no action has print this
   pub fault-first : (part : List ℕ) → length part ≡ 10 → ((i : ℕ) → getD part i 0 < 256) → ((a : Action) → IsAction a → bytesOf a ≡ part → ⊥)
-      → LineAt n b part text after → (text ≡ ascii "ACTION REFUSED 2\n") × (after ≡ b)
+      → LineAt n b part text → text ≡ ascii "ACTION REFUSED 2\n"
   fault-first part ten bytes missing l = refused-line part (two-exactly part ten bytes .1 missing) l
 
   -- so a filing of number 0 with a spare field set: 2, and not 3
-  pub fault-before-number-0 : LineAt n b (1 ∷ 0 ∷ 0 ∷ 1 ∷ 0 ∷ 0 ∷ 1 ∷ 0 ∷ 3 ∷ 4 ∷ []) text after → (text ≡ ascii "ACTION REFUSED 2\n") × (after ≡ b)
+  pub fault-before-number-0 : LineAt n b (1 ∷ 0 ∷ 0 ∷ 1 ∷ 0 ∷ 0 ∷ 1 ∷ 0 ∷ 3 ∷ 4 ∷ []) text → text ≡ ascii "ACTION REFUSED 2\n"
   fault-before-number-0 l = refused-line (1 ∷ 0 ∷ 0 ∷ 1 ∷ 0 ∷ 0 ∷ 1 ∷ 0 ∷ 3 ∷ 4 ∷ []) (action-refuses (later refl (here refl refl))) l
 
   -- "LF at each end", and nowhere else in a line
-  pub line-ends : (a : Action) → LineOf n b a text after → OneLine text
+  pub line-ends : (a : Action) → LineOf n b a text → OneLine text
   line-ends (Action.File x) l =
       rw (l .2) (line-feed-last FILE (decimal (x .number) ∷ told (l .0 .answer)) (nine-are-words .1 .0) (decimal-is-a-word (x .number), told-in-words (l .0 .answer)))
   line-ends (Action.Withdraw k) l =
@@ -72,4 +64,4 @@ module _ (n : ℕ) (b after : Book) (text : List ℕ) where
   line-ends (Action.Route s d) l =
       rw (l .2)
       (line-feed-last ROUTE (decimal s ∷ decimal d ∷ foundTold n (l .0)) (nine-are-words .1 .1 .1 .0) (decimal-is-a-word s, (decimal-is-a-word d, found-in-words n (l .0))))
-  line-ends (Action.Refused why) l = rw (l .0) (line-feed-last ACTION (refusal why) (nine-are-words .1 .1 .1 .1 .0) (refusal-in-words why))
+  line-ends (Action.Refused why) l = rw l (line-feed-last ACTION (refusal why) (nine-are-words .1 .1 .1 .1 .0) (refusal-in-words why))

@@ -6,7 +6,6 @@ use Prim.Native.Nat.{ℕ, _≤_, _<_, _+_}
 use native.Mathlib.Omega.{arith}
 use borrow.Author.Tests.{ne-eqb}
 use Rattle.table.specs.declared.Refusal.{Refusal}
-use Rattle.book.specs.declared.Book.{Book}
 use Rattle.sheet.specs.declared.Header.{Header}
 use Rattle.printed.specs.Words.{decimal, refusal, SHEET}
 use Rattle.printed.specs.Text.{sheetLine, refusedSheet}
@@ -33,10 +32,10 @@ one-end one =
     omega arith
 
 -- "a line per action"
-pub line-for-each : {sheet text : List ℕ} {n k : ℕ} {b : Book} → Lines sheet n k text b → lineEnds text ≡ k
-line-for-each (start o) = refl
-line-for-each {n = n} (more {k = k} {text = text} {next = next} {b = b} {c = c} v p) =
-    let one = one-end (line-ends n b c next (p .action) (p .tells)) in
+pub line-for-each : {sheet text : List ℕ} {n k : ℕ} → Lines sheet n k text → lineEnds text ≡ k
+line-for-each start = refl
+line-for-each {n = n} (more {k = k} {text = text} {next = next} {b = b} v made p) =
+    let one = one-end (line-ends n b next (p .action) (p .tells)) in
     let e = ends-append text next in
     let rest = line-for-each v in
     omega arith
@@ -51,17 +50,17 @@ refused-ends why = line-feed-last SHEET (refusal why) (nine-are-words .0) (refus
 pub text-lines : (sheet : List ℕ) (h : Header) (text : List ℕ) → Prints sheet h text → lineEnds text ≡ linesOf h
 text-lines sheet (Header.Sheet n count) text p =
     let w = first-line sheet n count text p in
-    let e = ap lineEnds (w .3) ∙ ends-append (sheetLine n count) (w .0) in
+    let e = ap lineEnds (w .2) ∙ ends-append (sheetLine n count) (w .0) in
     let first = one-end (first-ends n count) in
-    let rest = line-for-each (w .2) in
+    let rest = line-for-each (w .1) in
     omega arith
 text-lines sheet (Header.Refused why) text p = ap lineEnds (refused-text sheet why text p) ∙ one-end (refused-ends why)
 
 -- and LF is its last byte
-lines-closed : {sheet text : List ℕ} {n k : ℕ} {b : Book} → Lines sheet n k text b → (text ≡ []) ⊎ ((front : List ℕ) × (text ≡ front ++ 10 ∷ []))
-lines-closed (start o) = inl refl
-lines-closed {n = n} (more {text = text} {next = next} {b = b} {c = c} v p) =
-    let one = line-ends n b c next (p .action) (p .tells) in
+lines-closed : {sheet text : List ℕ} {n k : ℕ} → Lines sheet n k text → (text ≡ []) ⊎ ((front : List ℕ) × (text ≡ front ++ 10 ∷ []))
+lines-closed start = inl refl
+lines-closed {n = n} (more {text = text} {next = next} {b = b} v made p) =
+    let one = line-ends n b next (p .action) (p .tells) in
     inr (text ++ one .before, ap (λ (l : List ℕ). text ++ l) (one .closed) ∙ sym (append-assoc text (one .before) (10 ∷ [])))
 
 pub text-closed : (sheet : List ℕ) (h : Header) (text : List ℕ) → Prints sheet h text → (front : List ℕ) × (text ≡ front ++ 10 ∷ [])
@@ -71,8 +70,8 @@ text-closed sheet (Header.Sheet n count) text p = go (first-line sheet n count t
     end lines (inl e) = (first-ends n count .before, ap (λ (l : List ℕ). sheetLine n count ++ l) e ∙ append-nil (sheetLine n count) ∙ first-ends n count .closed)
     end lines (inr w) = (sheetLine n count ++ w .0, ap (λ (l : List ℕ). sheetLine n count ++ l) (w .1) ∙ sym (append-assoc (sheetLine n count) (w .0) (10 ∷ [])))
 
-    go : (lines : List ℕ) × (b : Book) × Lines sheet n count lines b × (text ≡ sheetLine n count ++ lines) → (front : List ℕ) × (text ≡ front ++ 10 ∷ [])
-    go w = let e = end (w .0) (lines-closed (w .2)) in (e .0, w .3 ∙ e .1)
+    go : (lines : List ℕ) × Lines sheet n count lines × (text ≡ sheetLine n count ++ lines) → (front : List ℕ) × (text ≡ front ++ 10 ∷ [])
+    go w = let e = end (w .0) (lines-closed (w .1)) in (e .0, w .2 ∙ e .1)
 text-closed sheet (Header.Refused why) text p = (refused-ends why .before, refused-text sheet why text p ∙ refused-ends why .closed)
 
 -- what is cut off the end of such a text takes a line's end with it

@@ -1,4 +1,4 @@
--- No action has a second line, nor leaves a second book.
+-- No action has a second line.
 use mathlib.Core.Path.{_≡_, sym, _∙_}
 use mathlib.Core.List.{List}
 use Prim.Native.Nat.{ℕ}
@@ -7,21 +7,12 @@ use Rattle.actions.specs.declared.Action.{Action}
 use Rattle.printed.specs.Lines.{LineOf, LineAt}
 use Rattle.printed.proofs.Answered.{filing-line, withdrawing-line, routing-line, line-by-action}
 
--- an action has one line, and leaves one book: both are those of what its entry answers
-pub line-once : (n : ℕ) (b : Book) (a : Action) (x y : List ℕ) (c d : Book) → LineOf n b a x c → LineOf n b a y d → (x ≡ y) × (c ≡ d)
-line-once n b (Action.File z) x y c d p q =
-    let v = filing-line n b c x z (q .0) (q .1) p in
-    let w = filing-line n b d y z (q .0) (q .1) q in
-    (v .0 ∙ sym (w .0), v .1 ∙ sym (w .1))
-line-once n b (Action.Withdraw k) x y c d p q =
-    let v = withdrawing-line n b c x k (q .0) (q .1) p in
-    let w = withdrawing-line n b d y k (q .0) (q .1) q in
-    (v .0 ∙ sym (w .0), v .1 ∙ sym (w .1))
-line-once n b (Action.Route s t) x y c d p q =
-    let v = routing-line n b c x s t (q .0) (q .1) p in
-    let w = routing-line n b d y s t (q .0) (q .1) q in
-    (v .0 ∙ sym (w .0), v .1 ∙ sym (w .1))
-line-once n b (Action.Refused why) x y c d p q = (p .0 ∙ sym (q .0), p .1 ∙ sym (q .1))
+-- an action has one line: that of what its entry answers
+pub line-once : (n : ℕ) (b : Book) (a : Action) (x y : List ℕ) → LineOf n b a x → LineOf n b a y → x ≡ y
+line-once n b (Action.File z) x y p q = filing-line n b x z (q .0) (q .1) p ∙ sym (filing-line n b y z (q .0) (q .1) q)
+line-once n b (Action.Withdraw k) x y p q = withdrawing-line n b x k (q .0) (q .1) p ∙ sym (withdrawing-line n b y k (q .0) (q .1) q)
+line-once n b (Action.Route s t) x y p q = routing-line n b x s t (q .0) (q .1) p ∙ sym (routing-line n b y s t (q .0) (q .1) q)
+line-once n b (Action.Refused why) x y p q = p ∙ sym q
 
-pub line-at-once : (n : ℕ) (b : Book) (part x y : List ℕ) (c d : Book) → LineAt n b part x c → LineAt n b part y d → (x ≡ y) × (c ≡ d)
-line-at-once n b part x y c d p q = line-once n b (q .action) x y c d (line-by-action n b c x part (q .action) (q .reads) p) (q .tells)
+pub line-at-once : (n : ℕ) (b : Book) (part x y : List ℕ) → LineAt n b part x → LineAt n b part y → x ≡ y
+line-at-once n b part x y p q = line-once n b (q .action) x y (line-by-action n b x part (q .action) (q .reads) p) (q .tells)

@@ -21,15 +21,6 @@ use Rattle.printed.specs.declared.Ran.{Ran}
 use Rattle.printed.proofs.Texts.{thirteen-exactly}
 use Rattle.printed.specs.Runs.{Prints, room, mostRoom, runChecks, ranSays, RunsBy, Runs}
 
--- a header that is accepted has a size that fits
-pub few-stages : {sheet : List ℕ} {h : Header} {n count : ℕ} → ReadsHeader sheet h → h ≡ Header.Sheet n count → n ≤ 12
-few-stages {sheet} {h} {n} {count} reads e =
-    let q : ReadsHeader sheet (Header.Sheet n count) = rw e at reads in
-    let s = neither (sizeIn sheet below 1) (12 below sizeIn sheet) (passed-nth (headerChecks sheet) 1 (header-passed q)) .1 in
-    let few = ltb-false 12 (sizeIn sheet) s in
-    let same = header-fields q .0 in
-    omega arith
-
 module _ (sheet : List ℕ) (header : Header) (before : List ℕ) where
   pub runs-short : length before < room header → RunsBy sheet header before (Ran.Refused Refusal.Room) before
   runs-short h =

@@ -10,9 +10,7 @@ use Rattle.table.specs.Reply.{Reply.accepted}
 use Rattle.table.specs.Checks.{Given, Passed}
 use Rattle.table.proofs.Numbers.{number-tells}
 use Rattle.table.proofs.Checks.{given-or-passed, zero-one}
-use Rattle.book.specs.declared.Book.{Book}
-use Rattle.book.specs.declared.Kept.{Kept}
-use Rattle.book.proofs.Once.{opens-once}
+use Rattle.changes.proofs.After.{after-once}
 use Rattle.sheet.specs.declared.Header.{Header}
 use Rattle.sheet.specs.Entries.{ReadsHeader}
 use Rattle.sheet.proofs.Sheets.{header-once}
@@ -22,17 +20,15 @@ use Rattle.printed.specs.Text.{sheetLine}
 use Rattle.printed.specs.Runs.{Lines, Lines.start, Lines.more, Prints, runChecks, ranSays, RunsBy, Runs}
 
 -- a sheet has one text
-pub lines-once : (sheet : List ℕ) (n k : ℕ) (x y : List ℕ) (b c : Book) → Lines sheet n k x b → Lines sheet n k y c → (x ≡ y) × (b ≡ c)
-lines-once sheet n k x y b c (start {r = q} p) (start {r = r} o) = (refl, ap (λ (z : Kept). z .book) (opens-once n q r p o))
-lines-once sheet n k x y b c (more {k = j} {text = text₁} {next = next₁} {b = b₁} v p) (more {text = text₂} {next = next₂} {b = b₂} w q) =
-    let e = lines-once sheet n j text₁ text₂ b₁ b₂ v w in
-    let l = line-at-once n b₂ _ next₁ next₂ b c (rw (e .1) at p) q in
-    (ap₂ (λ (s t : List ℕ). s ++ t) (e .0) (l .0), l .1)
+pub lines-once : (sheet : List ℕ) (n k : ℕ) (x y : List ℕ) → Lines sheet n k x → Lines sheet n k y → x ≡ y
+lines-once sheet n k x y start start = refl
+lines-once sheet n k x y (more {k = j} {text = text₁} {next = next₁} {b = b₁} v made p) (more {text = text₂} {next = next₂} {b = b₂} w again q) =
+    let e = after-once sheet n j b₁ b₂ made again in
+    ap₂ (λ (s t : List ℕ). s ++ t) (lines-once sheet n j text₁ text₂ v w) (line-at-once n b₂ _ next₁ next₂ (rw e at p) q)
 
 pub prints-once : (sheet : List ℕ) (h : Header) (x y : List ℕ) → Prints sheet h x → Prints sheet h y → x ≡ y
 prints-once sheet (Header.Sheet n count) x y p q =
-    let e = lines-once sheet n count (p .0) (q .0) (p .1) (q .1) (p .2) (q .2) in
-    p .3 ∙ ap (λ (l : List ℕ). sheetLine n count ++ l) (e .0) ∙ sym (q .3)
+    p .2 ∙ ap (λ (l : List ℕ). sheetLine n count ++ l) (lines-once sheet n count (p .0) (q .0) (p .1) (q .1)) ∙ sym (q .2)
 prints-once sheet (Header.Refused why) x y p q = p ∙ sym q
 
 ran-tells : (a b : Ran) → ranSays a ≡ ranSays b → a ≡ b

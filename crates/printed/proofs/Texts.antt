@@ -15,11 +15,8 @@ use Rattle.table.specs.Reply.{Reply.accepted, Numbered}
 use Rattle.table.specs.Checks.{numbers, Given, Given.here, Passed.none, Passed.passes}
 use Rattle.table.proofs.Checks.{not-given-and-passed, zero-one}
 use Rattle.table.proofs.Numbers.{above-zero}
-use Rattle.fabric.specs.Labels.{outsideSizes}
 use Rattle.book.specs.declared.Book.{Book}
-use Rattle.book.specs.Standing.{standing, bookOf}
-use Rattle.changes.proofs.Changes.{standing-of}
-use Rattle.changes.proofs.Reach.{opened-is}
+use Rattle.changes.specs.After.{After}
 use Rattle.sheet.specs.declared.Header.{Header}
 use Rattle.sheet.specs.Entries.{partOf}
 use Rattle.printed.specs.Words.{ascii, decimal}
@@ -72,14 +69,8 @@ refused-text sheet why text p = p
 
 -- "SHEET n count", and the lines of as many actions
 pub first-line : (sheet : List ℕ) (n count : ℕ) (text : List ℕ) → Prints sheet (Header.Sheet n count) text
-    → (lines : List ℕ) × (b : Book) × Lines sheet n count lines b × (text ≡ ascii "SHEET " ++ (decimal n ++ (ascii " " ++ (decimal count ++ ascii "\n"))) ++ lines)
+    → (lines : List ℕ) × Lines sheet n count lines × (text ≡ ascii "SHEET " ++ (decimal n ++ (ascii " " ++ (decimal count ++ ascii "\n"))) ++ lines)
 first-line sheet n count text p = p
-
--- "starting from an empty book"
-pub starts-empty : {sheet text : List ℕ} {n : ℕ} {b : Book} → outsideSizes n ≡ false → Lines sheet n 0 text b → (text ≡ []) × (b .n ≡ n) × (standing b ≡ [])
-starts-empty {n = n} fits (start {r = r} o) =
-    let e : r .book ≡ bookOf n [] = o .leaves ∙ opened-is n fits in
-    (refl, ap (λ (b : Book). b .n) e, ap standing e ∙ standing-of n [])
 
 -- the line of action j stands in a text, over the book that the actions before it leave, after the lines of those
 pub record LineIn (sheet : List ℕ) (n : ℕ) (text : List ℕ) (j : ℕ) : Type 0 where
@@ -87,15 +78,15 @@ pub record LineIn (sheet : List ℕ) (n : ℕ) (text : List ℕ) (j : ℕ) : Typ
   pub line : List ℕ
   pub rest : List ℕ
   pub before : Book
-  pub after : Book
-  pub earlier : Lines sheet n j first before
-  pub tells : LineAt n before (partOf sheet j) line after
+  pub earlier : Lines sheet n j first
+  pub made : After sheet n j before
+  pub tells : LineAt n before (partOf sheet j) line
   pub stands : text ≡ first ++ (line ++ rest)
 
 -- "a line per action"
-pub action-line-at : {sheet text : List ℕ} {n k : ℕ} {c : Book} (j : ℕ) → j < k → Lines sheet n k text c → LineIn sheet n text j
-action-line-at j h (start o) = absurd (omega arith)
-action-line-at {sheet = sheet} {n = n} j h (more {k = i} {text = text} {next = next} {b = b} {c = c} v p) = go (decLt j i) (λ less. action-line-at j less v)
+pub action-line-at : {sheet text : List ℕ} {n k : ℕ} (j : ℕ) → j < k → Lines sheet n k text → LineIn sheet n text j
+action-line-at j h start = absurd (omega arith)
+action-line-at {sheet = sheet} {n = n} j h (more {k = i} {text = text} {next = next} {b = b} v made p) = go (decLt j i) (λ less. action-line-at j less v)
   where
     go : Dec (j < i) → (j < i → LineIn sheet n text j) → LineIn sheet n (text ++ next) j
     go (yes less) on =
@@ -104,7 +95,7 @@ action-line-at {sheet = sheet} {n = n} j h (more {k = i} {text = text} {next = n
         ap (λ (l : List ℕ). l ++ next) (w .stands)
         ∙ append-assoc (w .first) (w .line ++ w .rest) next
         ∙ ap (λ (l : List ℕ). w .first ++ l) (append-assoc (w .line) (w .rest) next) in
-        record { first = w .first; line = w .line; rest = w .rest ++ next; before = w .before; after = w .after; earlier = w .earlier; tells = w .tells; stands = e }
+        record { first = w .first; line = w .line; rest = w .rest ++ next; before = w .before; earlier = w .earlier; made = w .made; tells = w .tells; stands = e }
     go (no last) on =
         let same : i ≡ j = omega arith in
         record {
@@ -112,13 +103,13 @@ action-line-at {sheet = sheet} {n = n} j h (more {k = i} {text = text} {next = n
           line = next;
           rest = [];
           before = b;
-          after = c;
           earlier = rw same at v;
-          tells = subst (λ (x : ℕ). LineAt n b (partOf sheet x) next c) same p;
+          made = subst (λ (x : ℕ). After sheet n x b) same made;
+          tells = subst (λ (x : ℕ). LineAt n b (partOf sheet x) next) same p;
           stands = ap (λ (l : List ℕ). text ++ l) (sym (append-nil next));
         }
 
 -- and so in all that is printed, after the first line
 pub every-action-printed : (sheet : List ℕ) (n count : ℕ) (text : List ℕ) (j : ℕ) → j < count → Prints sheet (Header.Sheet n count) text
     → (lines : List ℕ) × LineIn sheet n lines j × (text ≡ sheetLine n count ++ lines)
-every-action-printed sheet n count text j h p = (p .0, action-line-at j h (p .2), p .3)
+every-action-printed sheet n count text j h p = (p .0, action-line-at j h (p .1), p .2)

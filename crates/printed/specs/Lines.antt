@@ -11,17 +11,17 @@ use Rattle.actions.specs.declared.Action.{Action}
 use Rattle.actions.specs.Entries.{ReadsAction}
 use Rattle.printed.specs.Text.{fileLine, withdrawLine, routeLine, faultLine}
 
--- the line of one action over a book, by what the action's entry answers, and the book after it: `filing-line`, `withdrawing-line`,
--- `routing-line`; `line-ends` says that LF ends it and stands nowhere else in it
-abbrev pub LineOf : ℕ → Book → Action → List ℕ → Book → Type 0
-LineOf n b (Action.File x) text after = (r : Kept) × Files b x r × (text ≡ fileLine (x .number) (r .answer)) × (after ≡ r .book)
-LineOf n b (Action.Withdraw k) text after = (r : Kept) × Withdraws b k r × (text ≡ withdrawLine k (r .answer)) × (after ≡ r .book)
-LineOf n b (Action.Route s d) text after = (r : Found) × Routes b s d r × (text ≡ routeLine n s d r) × (after ≡ b)
-LineOf n b (Action.Refused why) text after = (text ≡ faultLine why) × (after ≡ b)
+-- the line of one action over a book, by what the action's entry answers: `filing-line`, `withdrawing-line`, `routing-line`; `line-ends` says that LF ends it
+-- and stands nowhere else in it
+abbrev pub LineOf : ℕ → Book → Action → List ℕ → Type 0
+LineOf n b (Action.File x) text = (r : Kept) × Files b x r × (text ≡ fileLine (x .number) (r .answer))
+LineOf n b (Action.Withdraw k) text = (r : Kept) × Withdraws b k r × (text ≡ withdrawLine k (r .answer))
+LineOf n b (Action.Route s d) text = (r : Found) × Routes b s d r × (text ≡ routeLine n s d r)
+LineOf n b (Action.Refused why) text = text ≡ faultLine why
 
 -- the line of a part of a sheet, as the action reader reads it (`line-by-action`). "Check 2 comes before the entry's own.":
 -- `fault-first`, `fault-before-number-0`
-pub record LineAt (n : ℕ) (b : Book) (part text : List ℕ) (after : Book) : Type 0 where
+pub record LineAt (n : ℕ) (b : Book) (part text : List ℕ) : Type 0 where
   pub action : Action
   pub reads : ReadsAction part action
-  pub tells : LineOf n b action text after
+  pub tells : LineOf n b action text

@@ -7,24 +7,23 @@ use Rattle.table.specs.Numbers.{numberOf}
 use Rattle.table.specs.Reply.{Reply, refused}
 use Rattle.table.specs.Checks.{Check, Given, Passed, _when_, _below_}
 use Rattle.book.specs.declared.Book.{Book}
-use Rattle.book.specs.declared.Kept.{Kept}
-use Rattle.book.specs.Entries.{Opens}
+use Rattle.changes.specs.After.{After}
 use Rattle.sheet.specs.declared.Header.{Header}
 use Rattle.sheet.specs.Entries.{ReadsHeader, partOf}
 use Rattle.printed.specs.Lines.{LineAt}
 use Rattle.printed.specs.declared.Ran.{Ran}
 use Rattle.printed.specs.Text.{sheetLine, refusedSheet}
 
--- "starting from an empty book", "a line per action": the lines of a sheet's first actions, and the book after them. `starts-empty`
--- says how it starts, `action-line-at` that the line of each action stands in its place, `line-for-each` that there are so many.
-pub data Lines (sheet : List ℕ) (n : ℕ) : ℕ → List ℕ → Book → Type 0 where
-  start : {r : Kept} → Opens n r → Lines sheet n 0 [] (r .book)
-  more : {k : ℕ} {text next : List ℕ} {b c : Book} → Lines sheet n k text b → LineAt n b (partOf sheet k) next c → Lines sheet n (suc k) (text ++ next) c
+-- "a line per action": the lines of a sheet's first actions, each over the book after those before it (`After`, which starts from an empty one).
+-- `action-line-at` says that the line of each action stands in its place, `line-for-each` that there are so many.
+pub data Lines (sheet : List ℕ) (n : ℕ) : ℕ → List ℕ → Type 0 where
+  start : Lines sheet n 0 []
+  more : {k : ℕ} {text next : List ℕ} {b : Book} → Lines sheet n k text → After sheet n k b → LineAt n b (partOf sheet k) next → Lines sheet n (suc k) (text ++ next)
 
 -- all that is printed of a sheet with this header: `first-line`, `every-action-printed` and `refused-text` say what stands where,
 -- `text-lines` how many lines there are
 abbrev pub Prints : List ℕ → Header → List ℕ → Type 0
-Prints sheet (Header.Sheet n count) text = (lines : List ℕ) × (b : Book) × Lines sheet n count lines b × (text ≡ sheetLine n count ++ lines)
+Prints sheet (Header.Sheet n count) text = (lines : List ℕ) × Lines sheet n count lines × (text ≡ sheetLine n count ++ lines)
 Prints sheet (Header.Refused why) text = text ≡ refusedSheet why
 
 -- the room that a run asks for, whatever it prints: so many bytes for the first line, and so many for each action (`room-grows`)

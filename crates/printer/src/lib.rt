@@ -40,7 +40,7 @@ fn refused_sheet(why: Refusal, out: &mut [u8]) -> Ran
 }
 
 fn whole_sheet(sheet: &[u8], n: u8, count: u16, out: &mut [u8]) -> Ran
-    requires { ⌜ n ≤ 12 ⌝ }
+    requires { ⌜ (1 ≤ n) × (n ≤ 12) ⌝ }
     ensures { λ r. ⌜ RunsBy (now (sheet .entry)) (Header.Sheet n count) (now (out .entry)) r (now (out .exit)) ⌝ }
 {
     if out.len() < FIRST_LINE_ROOM + ACTION_ROOM * count as usize {
@@ -60,10 +60,10 @@ fn sheet_line(n: u8, count: u16, out: &mut [u8]) -> usize
     number_told(out, between, b" ", count)
 }
 
-// "Then a line per action", starting from an empty book.
+// "Then a line per action", starting from an empty book, which is sound from its opening on: 16 is not tested.
 fn lines(sheet: &[u8], n: u8, count: u16, out: &mut [u8], at: usize) -> usize
-    requires { ⌜ (n ≤ 12) × (at + actionRoom * count ≤ length (now out)) ⌝ }
-    ensures { λ r. ⌜ ((b : Book) × LinesWritten (now (sheet .entry)) n count (now (out .entry)) at (now (out .exit)) r b) ⌝ }
+    requires { ⌜ (1 ≤ n) × (n ≤ 12) × (at + actionRoom * count ≤ length (now out)) ⌝ }
+    ensures { λ r. ⌜ LinesWritten (now (sheet .entry)) n count (now (out .entry)) at (now (out .exit)) r ⌝ }
 {
     let mut book = Book::open(n).book;
     let mut next = at;

@@ -1,4 +1,3 @@
 pub mod Examples
 pub mod Clearness
-pub mod Sheets
 pub mod Controllers

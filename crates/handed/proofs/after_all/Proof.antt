@@ -4,14 +4,13 @@ use native.Mathlib.Omega.{arith}
 use native.Mathlib.Numerals.{add-one}
 use mathlib.Core.Path.{_≡_}
 use borrow.Author.Needs.{needs}
-use Rattle.book.specs.Standing.{Sound}
-use Rattle.changes.proofs.Sounds.{opens-sound}
-use Rattle.handed.specs.Books.{After, After.start, After.more}
+use Rattle.changes.specs.After.{After}
+use Rattle.changes.proofs.After.{after-none, after-more, after-sound}
 use Rattle.handed.proofs.after_all.Statement.{statement}
 use Rattle.handed.proofs.after_all.Tie as tie
 
 abbrev Inv-loop : tie.InvT-loop
-Inv-loop sheet n count book₀ k₀ book k = (k ≤ count) × After sheet n k book × Sound book
+Inv-loop sheet n count book₀ k₀ book k = (k ≤ count) × After sheet n k book
 
 abbrev μ-loop : tie.MeasureT-loop
 μ-loop sheet n count book₀ k₀ book k = count - k
@@ -22,8 +21,7 @@ open-requires c κs = search needs
 loop-holds : tie.Need-loop-holds Inv-loop μ-loop
 loop-holds c =
     let o = c .before .«open» in
-    let sizes = c .before .before .before .pre in
-    (omega arith, start (o .ensures), opens-sound _ (o .result) (sizes .0) (sizes .1) (o .ensures))
+    (omega arith, after-none _ _ (o .result) (o .ensures))
 
 action-part-requires : tie.Need-action-part-requires Inv-loop μ-loop
 action-part-requires c κs = search needs
@@ -32,7 +30,9 @@ read-action-requires : tie.Need-read-action-requires Inv-loop μ-loop
 read-action-requires c κs = search needs
 
 after-one-requires : tie.Need-after-one-requires Inv-loop μ-loop
-after-one-requires c κs = c .before .before .before .loop .inv .2
+after-one-requires c κs =
+    let entry = c .before .before .before .before .before .before .before in
+    after-sound (entry .pre .0) (entry .pre .1) (c .before .before .before .loop .inv .1)
 
 add-k : tie.Need-add-k Inv-loop μ-loop
 add-k c = search needs
@@ -45,13 +45,14 @@ loop-again c =
     let v = c .before .before .before .before .loop in
     let part = c .before .before .action-part in
     let read = c .before .read-action in
-    (omega arith, rw add-one (more (v .inv .1) (rw (part .ensures .0) at (read .ensures)) (c .after-one .ensures .0)), c .after-one .ensures .1)
+    (omega arith, rw (c .after-one .ensures, add-one) (after-more (v .inv .1) (rw (part .ensures .0) at (read .ensures))))
 
 returns : tie.Need-returns Inv-loop μ-loop
 returns c =
     let v = c .before .loop in
     let e : v .k ≡ c .before .before .before .before .before .args .count = omega arith in
-    (rw (← e) (v .inv .1), v .inv .2)
+    let entry = c .before .before .before .before .before in
+    (rw (← e) (v .inv .1), after-sound (entry .pre .0) (entry .pre .1) (v .inv .1))
 
 pub after-all-spec : {M : Type 1} → statement M
 after-all-spec =

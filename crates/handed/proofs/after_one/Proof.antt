@@ -1,9 +1,6 @@
--- What the entry of the action hands back, which is sound again.
-use mathlib.Core.Path.{_≡_, refl}
+-- What the entry of the action hands back.
 use borrow.Author.Needs.{needs}
-use lib.ListN.{length}
-use Rattle.places.proofs.Arrays.{length-mapped}
-use Rattle.changes.proofs.Sounds.{files-sound, withdraws-sound}
+use Rattle.changes.proofs.After.{files-leave, withdraws-leave, nothing-changes}
 use Rattle.handed.proofs.after_one.Statement.{statement}
 use Rattle.handed.proofs.after_one.Tie as tie
 
@@ -27,25 +24,21 @@ enum-told-2 c = search needs
 
 returns : tie.Need-returns
 returns c =
-    let start = c .before .before .before .before .before in
-    let b = start .args .book in
+    let b = c .before .before .before .before .before .args .book in
     let kept = c .before .filed in
-    let places : length (b .notices) ≡ 48 = search (needs, length-mapped) in
-    (rw (c .before .before .before .action .given .1) (kept .result, kept .ensures, refl), files-sound b places (start .pre) _ (kept .result) (kept .ensures))
+    rw (c .before .before .before .action .given .1) (files-leave b _ (kept .result) (kept .ensures))
 
 returns-2 : tie.Need-returns-2
 returns-2 c =
-    let start = c .before .before .before .before .before in
-    let b = start .args .book in
+    let b = c .before .before .before .before .before .args .book in
     let kept = c .before .withdrawn in
-    let places : length (b .notices) ≡ 48 = search (needs, length-mapped) in
-    (rw (c .before .before .before .action2 .given .1) (kept .result, kept .ensures, refl), withdraws-sound b places (start .pre) _ (kept .result) (kept .ensures))
+    rw (c .before .before .before .action2 .given .1) (withdraws-leave b _ (kept .result) (kept .ensures))
 
 returns-3 : tie.Need-returns-3
-returns-3 c = (rw (c .enum-told .given .1) refl, c .before .before .pre)
+returns-3 c = rw (c .enum-told .given .1) (nothing-changes (c .before .before .args .book))
 
 returns-4 : tie.Need-returns-4
-returns-4 c = (rw (c .enum-told2 .given .1) refl, c .before .before .pre)
+returns-4 c = rw (c .enum-told2 .given .1) (nothing-changes (c .before .before .args .book))
 
 pub after-one-spec : {M : Type 1} → statement M
 after-one-spec =

@@ -13,8 +13,8 @@ enum-known-notice c = search needs
 slice-aggregate-notice-line : tie.Need-slice-aggregate-notice-line
 slice-aggregate-notice-line c = search needs
 
-file-requires : tie.Need-file-requires
-file-requires c κs = search needs
+filed-requires : tie.Need-filed-requires
+filed-requires c κs = search needs
 
 notice-line-requires : tie.Need-notice-line-requires
 notice-line-requires c κs = search needs
@@ -25,8 +25,8 @@ enum-known-k c = search needs
 slice-aggregate-notice-line-2 : tie.Need-slice-aggregate-notice-line-2
 slice-aggregate-notice-line-2 c = search needs
 
-withdraw-requires : tie.Need-withdraw-requires
-withdraw-requires c κs = search needs
+withdrawn-requires : tie.Need-withdrawn-requires
+withdrawn-requires c κs = search needs
 
 notice-line-requires-2 : tie.Need-notice-line-requires-2
 notice-line-requires-2 c κs = search needs
@@ -47,13 +47,13 @@ same-length : tie.Need-same-length
 same-length c = search needs
 
 returns : tie.Need-returns
-returns c = line-read (c .before .before .before .before .before .before .before .before .before .read-action .ensures) (c .before .before .before .before .before .before .before .notice .given .1) (line-filed (c .before .before .before .before .file .ensures) (c .before .before .notice-line .ensures))
+returns c = line-read (c .before .before .before .before .before .before .before .before .before .read-action .ensures) (c .before .before .before .before .before .before .before .notice .given .1) (line-filed (c .before .before .before .before .filed .ensures) (c .before .before .notice-line .ensures))
 
 same-length-2 : tie.Need-same-length-2
 same-length-2 c = search needs
 
 returns-2 : tie.Need-returns-2
-returns-2 c = line-read (c .before .before .before .before .before .before .before .before .before .read-action .ensures) (c .before .before .before .before .before .before .before .k .given .1) (line-withdrawn (c .before .before .before .before .withdraw .ensures) (c .before .before .notice-line2 .ensures))
+returns-2 c = line-read (c .before .before .before .before .before .before .before .before .before .read-action .ensures) (c .before .before .before .before .before .before .before .k .given .1) (line-withdrawn (c .before .before .before .before .withdrawn .ensures) (c .before .before .notice-line2 .ensures))
 
 same-length-3 : tie.Need-same-length-3
 same-length-3 c = search needs
@@ -74,11 +74,11 @@ action-line-spec =
     read-action-requires
     enum-known-notice
     slice-aggregate-notice-line
-    file-requires
+    filed-requires
     notice-line-requires
     enum-known-k
     slice-aggregate-notice-line-2
-    withdraw-requires
+    withdrawn-requires
     notice-line-requires-2
     enum-known-source
     route-line-requires

@@ -3,6 +3,7 @@ use mathlib.Core.Path.{refl}
 use native.Mathlib.Omega.{arith}
 use borrow.Author.Needs.{needs}
 use Rattle.words.proofs.Writing.{wrote-more}
+use Rattle.changes.proofs.After.{nothing-changes}
 use Rattle.lines.proofs.fault_line.Statement.{statement}
 use Rattle.lines.proofs.fault_line.Tie as tie
 
@@ -25,7 +26,8 @@ returns c n =
     let end = c .before .before .refusal-told in
     record {
       text = _;
-      tells = (refl, refl);
+      tells = refl;
+      leaves = nothing-changes (a .book);
       wrote = wrote-more (a .out .now) (a .at) (omega arith) (first .ensures) (end .ensures .0);
       short = omega arith;
     }

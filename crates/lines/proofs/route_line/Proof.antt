@@ -3,6 +3,7 @@ use mathlib.Core.Path.{refl}
 use native.Mathlib.Omega.{arith}
 use borrow.Author.Needs.{needs}
 use Rattle.words.proofs.Writing.{wrote-more}
+use Rattle.changes.proofs.After.{nothing-changes}
 use Rattle.lines.proofs.route_line.Statement.{statement}
 use Rattle.lines.proofs.route_line.Tie as tie
 
@@ -54,7 +55,8 @@ returns c =
     let numbers = wrote-more (first .last .0) (first .result) (omega arith) (from .ensures .0) tail in
     record {
       text = _;
-      tells = (found .result, found .ensures, refl, refl);
+      tells = (found .result, found .ensures, refl);
+      leaves = nothing-changes (a .book);
       wrote = wrote-more (a .out .now) (a .at) (omega arith) (first .ensures) numbers;
       short = omega arith;
     }

@@ -8,13 +8,15 @@ use borrow.Author.Needs.{needs}
 use lib.ListN.{length}
 use Rattle.printed.specs.Runs.{Lines.start, Lines.more}
 use Rattle.printer.specs.Written.{LinesWritten}
+use Rattle.changes.specs.After.{After}
+use Rattle.changes.proofs.After.{after-none, after-more, after-sound}
 use Rattle.words.proofs.Writing.{wrote-more, wrote-none}
 use Rattle.printer.proofs.lines.Statement.{statement}
 use Rattle.printer.proofs.lines.Tie as tie
 
 abbrev Inv-loop : tie.InvT-loop
 Inv-loop sheet n count out₀ at book₀ next₀ k₀ out book next k =
-    (k ≤ count) × LinesWritten sheet n k out₀ at out next book × (length out ≡ length out₀)
+    (k ≤ count) × LinesWritten sheet n k out₀ at out next × (length out ≡ length out₀) × After sheet n k book
 
 abbrev μ-loop : tie.MeasureT-loop
 μ-loop sheet n count out₀ at book₀ next₀ k₀ out book next k = count - k
@@ -25,13 +27,17 @@ open-requires c κs = search needs
 loop-holds : tie.Need-loop-holds Inv-loop μ-loop
 loop-holds c =
     let a = c .before .before .before .before .args in
-    (omega arith, record { text = []; tells = start (c .before .«open» .ensures); wrote = wrote-none (a .out .now) (a .at) (omega arith); short = omega arith }, refl)
+    let opened = c .before .«open» in
+    (omega arith, record { text = []; tells = start; wrote = wrote-none (a .out .now) (a .at) (omega arith); short = omega arith }, refl, after-none _ (a .n) (opened .result) (opened .ensures))
 
 action-part-requires : tie.Need-action-part-requires Inv-loop μ-loop
 action-part-requires c κs = search needs
 
 action-line-requires : tie.Need-action-line-requires Inv-loop μ-loop
-action-line-requires c κs = search needs
+action-line-requires c κs =
+    let entry = c .before .before .before .before .before .before .before .before in
+    let v = c .before .before .before .loop in
+    (search needs, after-sound (entry .pre .0) (entry .pre .1) (v .inv .3), search needs)
 
 add-k : tie.Need-add-k Inv-loop μ-loop
 add-k c = search needs
@@ -49,11 +55,12 @@ loop-again c =
       omega arith,
       record {
         text = w .text ++ l .text;
-        tells = rw add-one (more (w .tells) (rw (part .ensures .0) at (l .tells)));
+        tells = rw add-one (more (w .tells) (v .inv .3) (rw (part .ensures .0) at (l .tells)));
         wrote = wrote-more (a .out .now) (a .at) (omega arith) (w .wrote) (l .wrote);
         short = let s = l .short in let i = w .short in omega arith;
       },
       c .before .before .before .action-line .kept .1 .1 .1 .0 ∙ v .inv .2,
+      rw (l .leaves, add-one) (after-more (v .inv .3) (rw (part .ensures .0) at (l .tells .reads))),
     )
 
 same-length : tie.Need-same-length Inv-loop μ-loop
@@ -63,7 +70,7 @@ returns : tie.Need-returns Inv-loop μ-loop
 returns c =
     let v = c .before .loop in
     let e : v .k ≡ c .before .before .before .before .before .before .args .count = omega arith in
-    (v .book, rw (← e) (v .inv .1))
+    rw (← e) (v .inv .1)
 
 pub lines-spec : {M : Type 1} → statement M
 lines-spec =

@@ -1,6 +1,7 @@
 -- The header's answer says which text is printed.
 use borrow.Author.Needs.{needs}
-use Rattle.printed.proofs.Promises.{few-stages, runs-as}
+use Rattle.sheet.proofs.Promises.{header-sizes}
+use Rattle.printed.proofs.Promises.{runs-as}
 use Rattle.printer.proofs.run.Statement.{statement}
 use Rattle.printer.proofs.run.Tie as tie
 
@@ -17,7 +18,7 @@ enum-known-n : tie.Need-enum-known-n
 enum-known-n c = search needs
 
 whole-sheet-requires : tie.Need-whole-sheet-requires
-whole-sheet-requires c κs = few-stages (c .before .before .before .before .read-header .ensures) (c .before .before .n .given .1)
+whole-sheet-requires c κs = header-sizes (c .before .before .before .before .read-header .ensures) (c .before .before .n .given .1)
 
 same-length : tie.Need-same-length
 same-length c = search needs

@@ -34,10 +34,9 @@ returns-2 : tie.Need-returns-2
 returns-2 c =
     let a = c .before .before .before .before .before .before .before .before .before .before .before .args in
     let first = c .before .before .before .before .before .before .sheet-line .ensures .0 in
-    let b = c .before .before .lines .ensures .0 in
-    let w = c .before .before .lines .ensures .1 in
+    let w = c .before .before .lines .ensures in
     let enough = c .before .before .before .before .before .before .before .before .if1 .left in
-    runs-written (a .sheet .now) (Header.Sheet (a .n) (a .count)) (a .out .now) (omega arith) (w .text, b, w .tells, refl) (wrote-more (a .out .now) 0 (omega arith) first (w .wrote))
+    runs-written (a .sheet .now) (Header.Sheet (a .n) (a .count)) (a .out .now) (omega arith) (w .text, w .tells, refl) (wrote-more (a .out .now) 0 (omega arith) first (w .wrote))
     (let s = w .short in let f = c .before .before .before .before .before .before .sheet-line .ensures .1 in omega arith)
 
 pub whole-sheet-spec : {M : Type 1} → statement M
