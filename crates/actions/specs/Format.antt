@@ -1,4 +1,4 @@
--- Document 01, 'The sheet and what is printed': an action's ten bytes, `actionBytes` of the notices, and what is read of them.
+-- Document 01, 'The sheet and what is printed': what an action's ten bytes say, and what is read of them. The theorems named here stand in proofs/Meanings, proofs/Layouts and proofs/Actions.
 use mathlib.Core.Bool.{Bool, true, false, cond, not, _||_}
 use mathlib.Core.List.{List, [], _∷_}
 use Prim.Native.Nat.{ℕ, _+_, _*_}

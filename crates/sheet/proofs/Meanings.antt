@@ -23,6 +23,7 @@ pub header-spelled :
     × (headerBytes 12 258 ≡ code "F" ∷ code "S" ∷ code "H" ∷ 0 ∷ 1 ∷ 12 ∷ 1 ∷ 2 ∷ [])
 header-spelled = (refl, refl)
 
+-- so many bytes that the first action lies after them
 pub header-length : (n count : ℕ) → length (headerBytes n count) ≡ headerLength
 header-length n count = refl
 
