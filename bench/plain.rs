@@ -2,8 +2,8 @@
 //! router does, it answers each question from the list of notices and keeps nothing between two questions.
 //!
 //! The switches of column i that can lie on a path from s to d agree with d in their low i bits, and lie less than 2^i away
-//! from s on either side: `s + ((d - s) mod 2^i)` and the switch 2^i below it. So a notice is held against two labels, and
-//! most notices touch neither.
+//! from s on either side. There are two: the bit i of one is right, and it goes straight; the other one forks. So a notice is
+//! held against two labels, and most notices touch neither.
 
 #[derive(Clone, Copy)]
 pub enum Target {
@@ -20,88 +20,118 @@ pub enum Answer {
 
 /// A walk is the states it has used, the first of them highest; of two walks the lesser comes first. From this number on it
 /// is no clear walk.
-const LOST: u64 = 1 << 40;
+const LOST: u32 = 1 << 13;
 
-fn lost(stopped: u64) -> u64 {
-    (stopped & 1) << 40
-}
-
-/// Four bits a column for each of its two switches: the set of its links that are stopped, and 8 where it may not be entered.
-#[derive(Clone, Copy)]
-struct Marks {
-    above: u64,
-    below: u64,
-}
-
+/// The set that stands for a switch that may not be entered, beside straight 1, plus 2 and minus 4.
 const CLOSED: u8 = 8;
+
+/// Where the four bits of a column start. A product with one of these costs less than a shift by a variable.
+const PLACE: [u64; 16] = {
+    let mut place = [0; 16];
+    let mut i = 0;
+    while i < 16 {
+        place[i] = 1 << (4 * i);
+        i += 1;
+    }
+    place
+};
+
+/// The two switches of each column.
+struct Columns {
+    straight: [u16; 16],
+    fork: [u16; 16],
+}
+
+impl Columns {
+    #[inline(always)]
+    fn new(n: u32, source: u16, apart: u16) -> Columns {
+        let all = ((1u32 << n) - 1) as u16;
+        let mut columns = Columns { straight: [0; 16], fork: [0; 16] };
+        for i in 0..16 {
+            let near = source.wrapping_add(apart & ((1 << i) - 1));
+            let bit = apart & (1 << i);
+            columns.straight[i] = near.wrapping_sub(bit) & all;
+            columns.fork[i] = near.wrapping_add(bit).wrapping_sub(1 << i) & all;
+        }
+        columns
+    }
+}
+
+/// Four bits a column for each of its two switches: the set of its links that are stopped, and CLOSED.
+struct Marks {
+    straight: u64,
+    fork: u64,
+}
 
 impl Marks {
     #[inline(always)]
-    fn add(&mut self, i: u8, set: u8, above: bool, below: bool) {
-        let bits = (set as u64) << (4 * (i & 15));
-        self.above |= if above { bits } else { 0 };
-        self.below |= if below { bits } else { 0 };
+    fn add(&mut self, i: usize, set: u8, straight: bool, fork: bool) {
+        let bits = set as u64 * PLACE[i];
+        self.straight |= bits & (straight as u64).wrapping_neg();
+        self.fork |= bits & (fork as u64).wrapping_neg();
+    }
+
+    /// A notice of one switch: it is one of the two in few questions.
+    #[inline(always)]
+    fn add_one(&mut self, i: usize, set: u8, straight: bool, fork: bool) {
+        if straight | fork {
+            self.add(i, set, straight, fork);
+        }
+    }
+
+    #[inline(always)]
+    fn new(notices: &[Target], columns: &Columns) -> Marks {
+        let mut marks = Marks { straight: 0, fork: 0 };
+        for x in notices {
+            match *x {
+                Target::Links { stage, switch, set } => {
+                    let i = stage as usize & 15;
+                    marks.add_one(i, set, columns.straight[i] == switch, columns.fork[i] == switch);
+                }
+                Target::Switch { column, switch } => {
+                    let i = column as usize & 15;
+                    marks.add_one(i, CLOSED, columns.straight[i] == switch, columns.fork[i] == switch);
+                }
+                Target::Pattern { stage, value, mask, set } => {
+                    let i = stage as usize & 15;
+                    marks.add(i, set, columns.straight[i] & mask == value, columns.fork[i] & mask == value);
+                }
+            }
+        }
+        marks
     }
 }
 
-fn marks(n: u32, notices: &[Target], source: u32, destination: u32) -> Marks {
-    let all = ((1u32 << n) - 1) as u16;
-    let apart = (destination as u16).wrapping_sub(source as u16) & all;
-    // the upper switch of each column
-    let mut upper = [0u16; 16];
-    for i in 0..16 {
-        upper[i] = (source as u16).wrapping_add(apart & ((1u16 << i) - 1)) & all;
-    }
-    let mut marks = Marks { above: 0, below: 0 };
-    for x in notices {
-        match *x {
-            Target::Links { stage: i, switch, set } => {
-                let off = upper[i as usize & 15].wrapping_sub(switch) & all;
-                if off & !(1 << (i & 15)) == 0 {
-                    marks.add(i, set, off == 0, off != 0);
-                }
-            }
-            Target::Switch { column: i, switch } => {
-                let off = upper[i as usize & 15].wrapping_sub(switch) & all;
-                if off & !(1 << (i & 15)) == 0 {
-                    marks.add(i, CLOSED, off == 0, off != 0 || i as u32 == n);
-                }
-            }
-            Target::Pattern { stage: i, value, mask, set } => {
-                let up = upper[i as usize & 15];
-                let low = up.wrapping_sub(1 << (i & 15)) & all;
-                marks.add(i, set, up & mask == value, low & mask == value);
-            }
-        }
-    }
-    marks
+/// LOST where the set has a bit.
+fn lost(set: u64, bit: u32) -> u32 {
+    (set >> bit & 1) as u32 * LOST
 }
 
 pub fn route(n: u32, notices: &[Target], source: u32, destination: u32) -> Answer {
-    let Marks { mut above, mut below } = marks(n, notices, source, destination);
-    let apart = destination.wrapping_sub(source);
-    let mut up = 0u64;
-    let mut low = LOST;
+    let mut apart = destination.wrapping_sub(source);
+    let Marks { straight: mut right, fork: mut wrong } = Marks::new(notices, &Columns::new(n, source as u16, apart as u16));
+    let (mut straight, mut fork) = if apart & 1 == 0 { (0, LOST) } else { (LOST, 0) };
+    let mut digits = destination;
     let mut crossed = 0;
-    for i in 0..n {
-        let t = (destination >> i & 1) as u64;
-        // one of the two switches has bit i right and goes straight; the other one forks, plus to the next upper switch and
-        // minus to the next lower one
-        let upper_right = apart >> i & 1 == 0;
-        let (stays, forks) = if upper_right { (up, low) } else { (low, up) };
-        let (right, wrong) = if upper_right { (above, below) } else { (below, above) };
-        let onward = stays * 2 + lost(right);
-        let plus = forks * 2 + (1 - t) + lost(wrong >> 1);
-        let minus = forks * 2 + t + lost(wrong >> 2);
-        above >>= 4;
-        below >>= 4;
-        up = if upper_right { onward.min(plus) } else { plus } + lost(above >> 3);
-        low = if upper_right { minus } else { onward.min(minus) } + lost(below >> 3);
-        crossed += (up.min(low) < LOST) as u32;
+    for _ in 0..n {
+        // One of plus and minus leads from the fork to where the other switch's straight link leads, the other one away.
+        let (near, far) = if apart & 1 == 0 { (lost(wrong, 1), lost(wrong, 2)) } else { (lost(wrong, 2), lost(wrong, 1)) };
+        let state = (digits ^ apart) & 1;
+        let met = (straight * 2 + lost(right, 0)).min(fork * 2 + (state ^ 1) + near);
+        let away = fork * 2 + state + far;
+        // which of the next column's two switches they lead to
+        let turned = ((apart ^ apart >> 1) & 1).wrapping_neg() & (met ^ away);
+        apart >>= 1;
+        digits >>= 1;
+        right >>= 4;
+        wrong >>= 4;
+        straight = (met ^ turned) + lost(right, 3);
+        fork = (away ^ turned) + lost(wrong, 3);
+        crossed += (straight.min(fork) < LOST) as u32;
     }
     if crossed < n {
         return Answer::None(crossed);
     }
-    let states = (up.min(low) as u32).reverse_bits() >> (32 - n);
+    let states = straight.min(fork).reverse_bits() >> (32 - n);
     Answer::Tag(destination | states << n)
 }

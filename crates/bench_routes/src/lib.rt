@@ -9,6 +9,7 @@ ghost use mathlib.Core.Bool.{false};
 ghost use Prim.Native.Nat.{_+_, _≤_, _<_};
 ghost use lib.Dec.{eqb};
 ghost use lib.ListN.{length};
+ghost use Rattle.book.specs.Standing.{Sound};
 
 fn wide(x: u8) -> u16
     ensures { λ r. ⌜ r < 256 ⌝ }
@@ -102,6 +103,23 @@ fn answer(book: Book, asked: &[u8], answers: &mut [u8])
     }
 }
 
+// The same over a book that is known to be sound, which no question judges again.
+fn answer_sound(book: Book, asked: &[u8], answers: &mut [u8])
+    requires { ⌜ (Sound book) × (length (now asked) ≡ length (now answers)) ⌝ }
+{
+    let mut at = 0;
+    while 4 <= asked.len() - at {
+        let source = word(asked[at], asked[at + 1]);
+        let destination = word(asked[at + 2], asked[at + 3]);
+        let four = said(router::routed(book, source, destination));
+        answers[at] = four[0];
+        answers[at + 1] = four[1];
+        answers[at + 2] = four[2];
+        answers[at + 3] = four[3];
+        at += 4;
+    }
+}
+
 // How many notices stand after the rows are filed.
 #[no_mangle]
 pub extern "C" fn bench_standing(n: u8, rows: &[u8]) -> usize {
@@ -119,5 +137,21 @@ pub extern "C" fn bench_routes(n: u8, rows: &[u8], asked: &[u8], answers: &mut [
         return false;
     }
     answer(filed(n, rows), asked, answers);
+    true
+}
+
+// The same, with the book judged once and not for each question. Refused also where the book is not sound.
+#[no_mangle]
+pub extern "C" fn bench_routed(n: u8, rows: &[u8], asked: &[u8], answers: &mut [u8]) -> bool
+    ensures { λ r. ⌜ (r ≡ false → now (answers .exit) ≡ now (answers .entry)) ⌝ }
+{
+    if asked.len() != answers.len() {
+        return false;
+    }
+    let book = filed(n, rows);
+    if book::unsound(book) {
+        return false;
+    }
+    answer_sound(book, asked, answers);
     true
 }

@@ -1,32 +1,31 @@
--- The frontier over a book's marks: one stage on, empty, and at its end.
+-- The frontier over what is stopped: one stage on, empty, and at its end.
 use mathlib.Core.Path.{_≡_, sym, ap, subst, _∙_}
 use mathlib.Core.Bool.{Bool}
-use mathlib.Core.List.{List}
 use Prim.Native.Nat.{ℕ, suc, _+_, _*_, _≤_, _<_}
 use native.Mathlib.Numerals.{add-one}
 use native.Mathlib.Omega.{arith}
-use lib.ListN.{getD}
 use Rattle.fabric.specs.Labels.{size, bit}
 use Rattle.frontier.specs.declared.Front.{Front}
 use Rattle.frontier.specs.declared.Stops.{Stops}
 use Rattle.paths.specs.Clear.{Rule}
-use Rattle.frontier.specs.Frontier.{high, lesser, advanced, mirrored, stopsFrom}
+use Rattle.frontier.specs.Columns.{highRight}
+use Rattle.frontier.specs.Stops.{stopsAt, StopsUnder}
+use Rattle.frontier.specs.Frontier.{lesser, advanced, mirrored}
 use Rattle.paths.proofs.Named.{stage-named, none-clear}
-use Rattle.frontier.proofs.Pivots.{highRight}
-use Rattle.frontier.proofs.Frontier.{Holds, Found, looks-from, advanced-holds, onward-best, found-first}
+use Rattle.frontier.proofs.Frontier.{Looks, Holds, Found, looks-from, advanced-holds, onward-best, found-first}
 use Rattle.routes.specs.declared.Found as answer
 use Rattle.routes.specs.Routed.{Routed}
-use Rattle.crossing.specs.Marked.{Marked, unmarked}
 
 module _ (n : ℕ) (stops : Rule) (s d : ℕ) (source : s < size n) where
-  -- one stage on, by what the marks hold
-  pub front-on : (marks : List Stops) → Marked n stops s d marks → (i t : ℕ) (right : Bool) → i < n → highRight n s d i ≡ right → t ≡ bit i d
-      → (front next : Front) → next ≡ advanced n right t (getD marks i unmarked) front → Holds n stops s d i front → Holds n stops s d (i + 1) next
-  front-on marks marked i t right h er et front next e held =
-      let look : getD marks i unmarked ≡ stopsFrom stops n i (high n s d i) right = marked i h ∙ ap (stopsFrom stops n i (high n s d i)) er in
-      let w = advanced-holds n stops s d source i h right er (getD marks i unmarked) (looks-from n stops s d i right (getD marks i unmarked) look) front held in
+  -- one stage on, by what is stopped there
+  pub front-on : (w : Stops) → StopsUnder n stops s d w → (i t : ℕ) (right : Bool) → i < n → highRight n s d i ≡ right → t ≡ bit i d
+      → (front next : Front) → next ≡ advanced n right t (stopsAt i w) front → Holds n stops s d i front → Holds n stops s d (i + 1) next
+  front-on w under i t right h er et front next e held =
+      let look : Looks n stops s d i right (stopsAt i w) =
+      subst (λ (b : Bool). Looks n stops s d i b (stopsAt i w)) er (looks-from n stops s d i (highRight n s d i) (stopsAt i w) (under i h)) in
+      let on = advanced-holds n stops s d source i h right er (stopsAt i w) look front held in
       subst (λ (k : ℕ). Holds n stops s d k next) (sym (add-one i))
-      (subst (Holds n stops s d (suc i)) (sym (e ∙ ap (λ (x : ℕ). advanced n right x (getD marks i unmarked) front) et)) w)
+      (subst (Holds n stops s d (suc i)) (sym (e ∙ ap (λ (x : ℕ). advanced n right x (stopsAt i w) front) et)) on)
 
   -- a frontier that is reached no more
   pub none-ahead : (i : ℕ) → i < n → (front next : Front) → Holds n stops s d i front → lesser (front .high) (front .low) < size n

@@ -1,26 +1,25 @@
 // Document 01, 'Tags and steps': crossing the fabric from a source toward a destination, over whatever stops the links there. Every
-// router marks the links in its own way and then crosses.
+// router finds what is stopped in its own way and then crosses.
 use frontier::Stops;
 use routes::Found;
 ghost use Prim.Native.Nat.{_≤_, _<_};
 ghost use Rattle.fabric.specs.Labels.{size};
 ghost use Rattle.paths.specs.Clear.{Rule};
-ghost use Rattle.crossing.specs.Marked.{Marked};
+ghost use Rattle.frontier.specs.Stops.{StopsUnder};
 ghost use Rattle.routes.specs.Routed.{Routed};
 
-// The frontier from the source to the last column, or to the stage where it is empty, for whatever rule the marks are of.
-pub fn cross(n: u8, source: u16, destination: u16, marks: [Stops; 13]) -> Found
+// The frontier from the source to the last column, or to the stage where it is empty, for whatever rule stops those links.
+pub fn cross(n: u8, source: u16, destination: u16, stops: Stops) -> Found
     requires { ⌜ (n ≤ 12) × (source < size n) × (destination < size n) ⌝ }
-    ensures { λ r. ⌜ ((stops : Rule) → Marked n stops source destination marks → Routed n stops source destination r) ⌝ }
+    ensures { λ r. ⌜ ((rule : Rule) → StopsUnder n rule source destination stops → Routed n rule source destination r) ⌝ }
 {
     let apart = std::num::wrapping_sub_u16(destination, source);
     let mut front = frontier::at_source(n);
     let mut i = 0;
     while i < n {
-        let stops = marks[i as usize];
         let t = fabric::bit_of(i, destination);
         let right = fabric::bit_of(i, apart) == 0;
-        front = frontier::advance(n, front, right, t, stops);
+        front = frontier::advance(n, i, front, right, t, stops);
         if !frontier::reached(n, front) {
             return Found::None(i);
         }

@@ -1,6 +1,6 @@
 -- The first of some walks, and how it is found again after one link more, and where two ways meet.
 use mathlib.Core.Path.{_≡_, refl, sym, ap, ap₂, subst, _∙_}
-use mathlib.Core.Bool.{cond}
+use mathlib.Core.Bool.{cond, not}
 use mathlib.Core.List.{List, [], _∷_, _++_}
 use mathlib.Core.Logic.{_⊎_, inl, inr, ⊎-elim}
 use Prim.Native.Nat.{ℕ, suc, _+_, _*_, _^_, _≤_, _<_}
@@ -16,6 +16,7 @@ use Rattle.fabric.specs.Walks.{walked}
 use Rattle.scheme.specs.Scheme.{stateFor}
 use Rattle.scheme.proofs.Table.{stateFor-lt}
 use Rattle.paths.specs.Clear.{Rule}
+use Rattle.frontier.specs.Stops.{stopping}
 use Rattle.frontier.specs.Frontier.{through, lesser}
 use Rattle.paths.proofs.Keys.{keyOf, key-lt, key-next}
 use Rattle.frontier.proofs.Places.{lesser-earlier, lesser-later}
@@ -54,7 +55,7 @@ module _ (n s : ℕ) where
 
   pub through-best : (stops : Rule) (i j c state : ℕ) (P : List ℕ → Type 0) (p : ℕ) → i < n
       → ((cs : List ℕ) → P cs → (length cs ≡ i) × (walked n 0 s cs ≡ j)) → state ≡ stateFor (bit i j) c
-      → Best n s P p → Best n s (Via stops i j c P) (through n p (stops i j c) state)
+      → Best n s P p → Best n s (Via stops i j c P) (through n p (stopping (stops i j c)) state)
   unfolding through
   through-best stops i j c state P p inside onto es b = go (ℕ-discrete (stops i j c) 0)
     where
@@ -91,7 +92,7 @@ module _ (n s : ℕ) where
       none m cs v (yes l) = let r = room l in absurd (omega arith)
       none m cs v (no l) = b .unreached (omega arith) (v .before) (v .among)
 
-      go : Dec (stops i j c ≡ 0) → Best n s (Via stops i j c P) (p * 2 + state + cond (eqb (stops i j c) 0) 0 (size n))
+      go : Dec (stops i j c ≡ 0) → Best n s (Via stops i j c P) (p * 2 + state + cond (not (eqb (stops i j c) 0)) (size n) 0)
       go (yes z) =
           rw (eq-eqb _ _ z)
           (record { reached = λ m. leads z (omega arith); unreached = λ m cs v. none m cs v (decLt p (size n)) })

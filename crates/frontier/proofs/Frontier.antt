@@ -13,22 +13,23 @@ use Rattle.scheme.specs.Scheme.{stateFor}
 use Rattle.scheme.specs.Tags.{normalTag}
 use Rattle.scheme.proofs.Table.{stateFor-plus, stateFor-minus}
 use Rattle.frontier.specs.declared.Front.{Front}
-use Rattle.frontier.specs.declared.Stops.{Stops}
 use Rattle.paths.specs.Clear.{Rule, Onward, First}
-use Rattle.frontier.specs.Frontier.{stopsFrom, high, low, start, through, lesser, advanced, mirrored}
+use Rattle.frontier.specs.Columns.{high, low, highRight}
+use Rattle.frontier.specs.Stops.{StopsAt, stopping, stopsFrom}
+use Rattle.frontier.specs.Frontier.{start, through, lesser, advanced, mirrored}
 use Rattle.paths.proofs.Keys.{keyOf}
 use Rattle.frontier.proofs.Mirrored.{key-mirrored}
 use Rattle.paths.proofs.Walks.{onward-path, path-onward}
-use Rattle.frontier.proofs.Pivots.{highRight, low-bit-wrong, high-bit-wrong}
+use Rattle.frontier.proofs.Pivots.{low-bit-wrong, high-bit-wrong}
 use Rattle.frontier.proofs.Best.{Best, Via, none-best, best-as, through-best, lesser-best}
 use Rattle.frontier.proofs.Sides.{Arrives, sides, sides-complete, up-onward, down-onward, up-arrives, down-arrives, next}
 use Rattle.paths.proofs.Order.{earlier-key}
 
--- the numbers that stop the links out of column i that lead toward d
-pub record Looks (n : ℕ) (stops : Rule) (s d i : ℕ) (right : Bool) (x : Stops) : Type 0 where
-  pub straight : x .straight ≡ stops i (cond right (high n s d i) (low n s d i)) 0
-  pub plus : x .plus ≡ stops i (cond right (low n s d i) (high n s d i)) 1
-  pub minus : x .minus ≡ stops i (cond right (low n s d i) (high n s d i)) 2
+-- whether the links out of column i that lead toward d are stopped
+pub record Looks (n : ℕ) (stops : Rule) (s d i : ℕ) (right : Bool) (x : StopsAt) : Type 0 where
+  pub straight : x .straight ≡ stopping (stops i (cond right (high n s d i) (low n s d i)) 0)
+  pub plus : x .plus ≡ stopping (stops i (cond right (low n s d i) (high n s d i)) 1)
+  pub minus : x .minus ≡ stopping (stops i (cond right (low n s d i) (high n s d i)) 2)
 
 -- what the frontier holds in column i
 pub record Holds (n : ℕ) (stops : Rule) (s d i : ℕ) (f : Front) : Type 0 where
@@ -41,9 +42,9 @@ pub record Found (n : ℕ) (stops : Rule) (s d tag : ℕ) : Type 0 where
   pub first : First n stops s d steps
   pub normal : tag ≡ normalTag n s steps
 
-pub looks-from : (n : ℕ) (stops : Rule) (s d i : ℕ) (right : Bool) (x : Stops) → x ≡ stopsFrom stops n i (high n s d i) right → Looks n stops s d i right x
-looks-from n stops s d i true x e = rw e (record { straight = refl; plus = refl; minus = refl })
-looks-from n stops s d i false x e = rw e (record { straight = refl; plus = refl; minus = refl })
+pub looks-from : (n : ℕ) (stops : Rule) (s d i : ℕ) (right : Bool) (x : StopsAt)
+    → x ≡ stopsFrom stops i (cond right (high n s d i) (low n s d i)) (cond right (low n s d i) (high n s d i)) → Looks n stops s d i right x
+looks-from n stops s d i right x e = rw e (record { straight = refl; plus = refl; minus = refl })
 
 module _ (n : ℕ) (stops : Rule) (s d : ℕ) (source : s < size n) where
   pub start-holds : Holds n stops s d 0 (start n)
@@ -58,10 +59,10 @@ module _ (n : ℕ) (stops : Rule) (s d : ℕ) (source : s < size n) where
       }
 
   -- the first walks with one link more
-  onward-by : (i j c state stop : ℕ) (P : List ℕ → Type 0) (p : ℕ) → i < n → ((cs : List ℕ) → P cs → Arrives n stops s d i j cs)
-      → state ≡ stateFor (bit i j) c → stop ≡ stops i j c → Best n s P p → Best n s (Via stops i j c P) (through n p stop state)
+  onward-by : (i j c state : ℕ) (stop : Bool) (P : List ℕ → Type 0) (p : ℕ) → i < n → ((cs : List ℕ) → P cs → Arrives n stops s d i j cs)
+      → state ≡ stateFor (bit i j) c → stop ≡ stopping (stops i j c) → Best n s P p → Best n s (Via stops i j c P) (through n p stop state)
   onward-by i j c state stop P p h arrives es e b =
-      subst (λ (x : ℕ). Best n s (Via stops i j c P) (through n p x state)) (sym e)
+      subst (λ (x : Bool). Best n s (Via stops i j c P) (through n p x state)) (sym e)
       (through-best n s stops i j c state P p h (λ cs w. let a = arrives cs w in (a .onward .links, a .at)) es b)
 
   -- the states of plus and minus at a switch whose bit is wrong
@@ -71,11 +72,11 @@ module _ (n : ℕ) (stops : Rule) (s d : ℕ) (source : s < size n) where
   minus-state : (i j : ℕ) → bit i j ≡ 1 - bit i d → bit i d ≡ stateFor (bit i j) 2
   minus-state i j e = let t = bit-lt i d in sym (stateFor-minus (bit i j) 2 (bit-lt i j) (omega arith) ∙ ap (λ (x : ℕ). 1 - x) e ∙ omega arith)
 
-  record Stepped (i : ℕ) (b right : Bool) (x : Stops) (f : Front) : Type 0 where
+  record Stepped (i : ℕ) (b right : Bool) (x : StopsAt) (f : Front) : Type 0 where
     high : Best n s (next n stops s d i b (sides n stops s d i) .up) (advanced n right (bit i d) x f .high)
     low : Best n s (next n stops s d i b (sides n stops s d i) .down) (advanced n right (bit i d) x f .low)
 
-  stepped : (i : ℕ) → i < n → (right : Bool) → highRight n s d i ≡ right → (x : Stops) → Looks n stops s d i right x → (f : Front)
+  stepped : (i : ℕ) → i < n → (right : Bool) → highRight n s d i ≡ right → (x : StopsAt) → Looks n stops s d i right x → (f : Front)
       → Holds n stops s d i f → Stepped i right right x f
   unfolding advanced
   stepped i h true e x look f held =
@@ -108,7 +109,7 @@ module _ (n : ℕ) (stops : Rule) (s d : ℕ) (source : s < size n) where
       }
 
   -- the frontier one stage on
-  pub advanced-holds : (i : ℕ) → i < n → (right : Bool) → highRight n s d i ≡ right → (x : Stops) → Looks n stops s d i right x → (f : Front)
+  pub advanced-holds : (i : ℕ) → i < n → (right : Bool) → highRight n s d i ≡ right → (x : StopsAt) → Looks n stops s d i right x → (f : Front)
       → Holds n stops s d i f → Holds n stops s d (suc i) (advanced n right (bit i d) x f)
   unfolding sides
   advanced-holds i h right e x look f held =

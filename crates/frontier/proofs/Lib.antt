@@ -1,6 +1,9 @@
 pub mod Mirrored
 pub mod Pivots
+pub mod Apart
 pub mod Places
 pub mod Best
 pub mod Sides
 pub mod Frontier
+pub mod Words
+pub mod Filled

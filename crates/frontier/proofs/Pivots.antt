@@ -1,18 +1,17 @@
 -- The two switches of a column that lie on ways from s to d, and where their links lead.
 use mathlib.Core.Path.{_≡_, sym, ap, _∙_}
-use mathlib.Core.Bool.{Bool, true, false, cond}
+use mathlib.Core.Bool.{true, false, cond}
 use Prim.Native.Nat.{ℕ, zero, suc, _+_, _-_, _%_, _^_, _≤_, _<_}
 use native.Mathlib.Nat.{mod-add-mod, add-mod-right, pow-suc}
 use native.Mathlib.Decide.{ℕ-discrete}
 use native.Mathlib.Omega.{arith}
 use borrow.Author.Tests.{eq-eqb, ne-eqb, eqb-true, eqb-false}
-use lib.Dec.{eqb}
 use lib.Pow.{pow-mono}
 use Rattle.fabric.specs.Labels.{size, bit, Agree}
 use Rattle.fabric.specs.Links.{lands}
 use Rattle.fabric.proofs.Bits.{bit-lt}
 use Rattle.fabric.proofs.Links.{lands-lt, minus-then-plus, low-bits-stay, nonstraight-bit, straight-toward, nonstraight-toward}
-use Rattle.frontier.specs.Frontier.{high, low}
+use Rattle.frontier.specs.Columns.{high, low, highRight}
 
 -- minus twice at one stage is minus at the next; plus at one stage and minus at the next is minus
 module _ (n i j : ℕ) (inside : i < n) (label : j < size n) where
@@ -33,10 +32,6 @@ module _ (n i j : ℕ) (inside : i < n) (label : j < size n) where
       let d = pow-suc 2 i in
       mod-add-mod (j + 2 ^ i) (size n) (size n - 2 ^ suc i)
       ∙ ap (λ (x : ℕ). x % size n) {x = j + 2 ^ i + (size n - 2 ^ suc i)} {y = j + (size n - 2 ^ i)} (omega arith)
-
--- whether the high switch's bit is right
-abbrev pub highRight : ℕ → ℕ → ℕ → ℕ → Bool
-highRight n s d i = eqb (bit i (high n s d i)) (bit i d)
 
 module _ (n s d : ℕ) (source : s < size n) where
   pub high-lt : (i : ℕ) → high n s d i < size n

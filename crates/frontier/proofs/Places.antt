@@ -4,32 +4,22 @@ use mathlib.Core.Bool.{Bool, true, false, cond}
 use Prim.Native.Nat.{ℕ, suc, zero-le, _+_, _-_, _*_, _^_, _≤_, _<_}
 use native.Mathlib.Nat.{pow-suc}
 use native.Mathlib.Omega.{arith}
-use borrow.Author.Tests.{eq-eqb, ne-eqb, le-leb, lt-leb}
-use lib.Dec.{eqb, leb}
+use borrow.Author.Tests.{le-leb, lt-leb}
+use lib.Dec.{leb}
 use lib.Pow.{pow-pos, pow-mono}
 use Rattle.fabric.specs.Labels.{size}
 use Rattle.frontier.specs.declared.Front.{Front}
-use Rattle.frontier.specs.declared.Stops.{Stops}
+use Rattle.frontier.specs.Stops.{StopsAt}
 use Rattle.frontier.specs.Frontier.{Small, lostBy, through, lesser, advanced}
 
 pub few-labels : (n : ℕ) → n ≤ 12 → size n ≤ 4096
 few-labels n h = pow-mono {j = 12} h
 
-module _ (n stop : ℕ) where
-  pub clear-lost : {r : ℕ} → r ≡ 0 → stop ≡ 0 → r ≡ lostBy n stop
-  clear-lost e z = e ∙ sym (ap (λ (b : Bool). cond b 0 (size n)) (eq-eqb stop 0 z))
+pub lost-small : (n : ℕ) (stopped : Bool) → n ≤ 12 → lostBy n stopped ≤ 4096
+lost-small n true h = few-labels n h
+lost-small n false h = omega arith
 
-  pub stopped-lost : {r : ℕ} → r ≡ size n → (stop ≡ 0 → ⊥) → r ≡ lostBy n stop
-  stopped-lost e z = e ∙ sym (ap (λ (b : Bool). cond b 0 (size n)) (ne-eqb stop 0 z))
-
-  pub lost-small : n ≤ 12 → lostBy n stop ≤ 4096
-  lost-small h = let f = few-labels n h in of (eqb stop 0) f
-    where
-      of : (b : Bool) → size n ≤ 4096 → cond b 0 (size n) ≤ 4096
-      of true f = omega arith
-      of false f = f
-
-pub through-of : (n p stop state : ℕ) {r : ℕ} → r ≡ lostBy n stop → p * 2 + state + r ≡ through n p stop state
+pub through-of : (n p : ℕ) (stop : Bool) (state : ℕ) {r : ℕ} → r ≡ lostBy n stop → p * 2 + state + r ≡ through n p stop state
 unfolding through
 through-of n p stop state e = ap (λ (x : ℕ). p * 2 + state + x) e
 
@@ -59,24 +49,24 @@ pub chosen-below : (b : Bool) {r p q m : ℕ} → r ≡ cond b p q → p < m →
 chosen-below b {r} {p} {q} {m} e x y = subst (λ (z : ℕ). z < m) (sym e) (chosen-has (λ (z : ℕ). z < m) b x y)
 
 -- the frontier one stage on, from what its links give
-pub advanced-of : (n : ℕ) (right : Bool) (t : ℕ) (x : Stops) (f : Front) {stays forks straight up down other met high low : ℕ}
-    → stays ≡ cond right (f .high) (f .low) → forks ≡ cond right (f .low) (f .high)
-    → straight ≡ through n stays (x .straight) 0 → up ≡ through n forks (x .plus) (1 - t) → down ≡ through n forks (x .minus) t
+pub advanced-of : (n : ℕ) (right : Bool) (t : ℕ) (x : StopsAt) (f : Front) {stays forks straight up down other met high low : ℕ} {a b m : Bool}
+    → a ≡ x .straight → b ≡ x .plus → m ≡ x .minus → stays ≡ cond right (f .high) (f .low) → forks ≡ cond right (f .low) (f .high)
+    → straight ≡ through n stays a 0 → up ≡ through n forks b (1 - t) → down ≡ through n forks m t
     → other ≡ cond right up down → met ≡ lesser straight other → high ≡ cond right met up → low ≡ cond right down met
     → _≡_ {A = Front} (record { high = high; low = low }) (advanced n right t x f)
 unfolding advanced
-advanced-of n right t x f es ef ea eu ed eo em eh el = rw (eh, el, em, eo, ea, eu, ed, es, ef)
+advanced-of n right t x f a b m es ef ea eu ed eo em eh el = rw (eh, el, em, eo, ea, eu, ed, es, ef, a, b, m)
 
 -- the numbers of a frontier in column i fit, and so do those one stage on
 module _ (n i : ℕ) (few : n ≤ 12) where
-  through-small : (p stop state : ℕ) → state < 2 → Small i p → Small (suc i) (through n p stop state)
+  through-small : (p : ℕ) (stop : Bool) (state : ℕ) → state < 2 → Small i p → Small (suc i) (through n p stop state)
   unfolding through
   through-small p stop state h w =
       let l = lost-small n stop few in
       let d : 2 ^ (suc i + 14) ≡ 2 ^ (i + 14) * 2 = ap (λ (m : ℕ). 2 ^ m) {x = suc i + 14} {y = suc (i + 14)} (omega arith) ∙ pow-suc 2 (i + 14) in
       omega arith
 
-  pub advanced-small : (right : Bool) (t : ℕ) (x : Stops) (f : Front) → t < 2 → Small i (f .high) → Small i (f .low)
+  pub advanced-small : (right : Bool) (t : ℕ) (x : StopsAt) (f : Front) → t < 2 → Small i (f .high) → Small i (f .low)
       → Small (suc i) (advanced n right t x f .high) × Small (suc i) (advanced n right t x f .low)
   unfolding advanced
   advanced-small right t x f h a b =

@@ -13,9 +13,9 @@ use Rattle.fabric.specs.Walks.{walked}
 use Rattle.fabric.proofs.Bits.{bit-lt}
 use Rattle.fabric.proofs.Links.{toward-straight, toward-nonstraight, straight-toward, nonstraight-toward}
 use Rattle.paths.specs.Clear.{Rule, Onward}
-use Rattle.frontier.specs.Frontier.{high, low}
+use Rattle.frontier.specs.Columns.{high, low, highRight}
 use Rattle.paths.proofs.Walks.{Last, last, lengthened, walked-snoc}
-use Rattle.frontier.proofs.Pivots.{highRight, high-agrees, low-agrees, high-straight, low-plus, low-minus, high-bit-right, low-bit-wrong, high-plus, high-minus, low-straight, high-bit-wrong, low-bit-right}
+use Rattle.frontier.proofs.Pivots.{high-agrees, low-agrees, high-straight, low-plus, low-minus, high-bit-right, low-bit-wrong, high-plus, high-minus, low-straight, high-bit-wrong, low-bit-right}
 use Rattle.frontier.proofs.Best.{Via}
 
 -- the walks that arrive in column i on the high side, and on the low side

@@ -1,1 +1,3 @@
+pub mod Columns
+pub mod Stops
 pub mod Frontier

@@ -3,7 +3,15 @@ ghost use mathlib.Core.Path.{_≡_};
 ghost use mathlib.Core.Bool.{cond, true, false};
 ghost use Prim.Native.Nat.{_+_, _*_, _≤_, _<_};
 ghost use Rattle.fabric.specs.Labels.{size};
+ghost use Rattle.frontier.specs.Stops.{stopsAt};
 ghost use Rattle.frontier.specs.Frontier.{start, lostBy, through, lesser, advanced, mirrored};
+
+mod ways; // ways.rt: the two switches of each column
+mod links; // links.rt: which of their links are stopped
+
+pub use links::none_stopped;
+pub use links::with_stage;
+pub use ways::columns_between;
 
 // The two switches of a column: the high one, and the low one 2^i below it. Of each is held the first clear walk that reaches
 // it, as the states of its steps in one number, that of stage 0 highest: of two walks the lesser comes first. N or more is
@@ -13,12 +21,18 @@ pub struct Front {
     pub low: u32,
 }
 
-// Which numbers stop the links out of a column's two switches that lead toward the destination: the straight link of the
-// one whose bit is right, and the nonstraight links of the other. 0 is clear.
+// The two switches of each column by what they do there: the one whose bit is right goes straight, the other one forks.
+pub struct Columns {
+    pub straight: [u16; 13],
+    pub fork: [u16; 13],
+}
+
+// Of the links that lead toward the destination out of a column's two switches, which ones are stopped: the straight link of the switch
+// whose bit is right, and the nonstraight links of the other, which forks. Bit i tells of stage i.
 pub struct Stops {
-    pub straight: u16,
-    pub plus: u16,
-    pub minus: u16,
+    pub straight: u32,
+    pub plus: u32,
+    pub minus: u32,
 }
 
 // In column 0 the source alone is reached.
@@ -32,23 +46,23 @@ pub fn at_source(n: u8) -> Front
     }
 }
 
-// What makes a walk none where a number stops its link.
-fn lost_by(n: u8, stop: u16) -> u32
+// What makes a walk none where its link is stopped.
+fn lost_by(n: u8, stopped: bool) -> u32
     requires { ⌜ n ≤ 12 ⌝ }
-    ensures { λ r. ⌜ r ≡ lostBy n stop ⌝ }
+    ensures { λ r. ⌜ r ≡ lostBy n stopped ⌝ }
 {
-    if stop == 0 {
-        return 0;
+    if stopped {
+        return fabric::size(n) as u32;
     }
-    fabric::size(n) as u32
+    0
 }
 
-// A walk with one link more, taken in a state, that a number stops. After 12 links its number is still below 2^26.
-fn by_link(n: u8, walk: u32, stop: u16, state: u8) -> u32
+// A walk with one link more, stopped or not, taken in a state. After 12 links its number is still below 2^26.
+fn by_link(n: u8, walk: u32, stopped: bool, state: u8) -> u32
     requires { ⌜ (n ≤ 12) × (state < 2) × (walk < 33554432) ⌝ }
-    ensures { λ r. ⌜ r ≡ through n walk stop state ⌝ }
+    ensures { λ r. ⌜ r ≡ through n walk stopped state ⌝ }
 {
-    walk * 2 + state as u32 + lost_by(n, stop)
+    walk * 2 + state as u32 + lost_by(n, stopped)
 }
 
 // Of two ways to one switch, the one that comes first.
@@ -69,15 +83,15 @@ fn chosen(first: bool, p: u32, q: u32) -> u32
 
 // The frontier one stage on, toward a destination with bit t. The switch whose bit is right goes straight; the other one
 // forks, plus up and minus down.
-pub fn advance(n: u8, front: Front, right: bool, t: u8, stops: Stops) -> Front
-    requires { ⌜ (n ≤ 12) × (t < 2) × (front .high < 33554432) × (front .low < 33554432) ⌝ }
-    ensures { λ r. ⌜ r ≡ advanced n right t stops front ⌝ }
+pub fn advance(n: u8, i: u8, front: Front, right: bool, t: u8, stops: Stops) -> Front
+    requires { ⌜ (n ≤ 12) × (i < 12) × (t < 2) × (front .high < 33554432) × (front .low < 33554432) ⌝ }
+    ensures { λ r. ⌜ r ≡ advanced n right t (stopsAt i stops) front ⌝ }
 {
     let stays = chosen(right, front.high, front.low);
     let forks = chosen(right, front.low, front.high);
-    let straight = by_link(n, stays, stops.straight, 0);
-    let up = by_link(n, forks, stops.plus, 1 - t);
-    let down = by_link(n, forks, stops.minus, t);
+    let straight = by_link(n, stays, links::stopped(i, stops.straight), 0);
+    let up = by_link(n, forks, links::stopped(i, stops.plus), 1 - t);
+    let down = by_link(n, forks, links::stopped(i, stops.minus), t);
     let met = first_of(straight, chosen(right, up, down));
     Front {
         high: chosen(right, met, up),

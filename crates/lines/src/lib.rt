@@ -50,10 +50,10 @@ fn notice_line(name: &[u8], k: u16, kept: Kept, out: &mut [u8], at: usize) -> Ne
 }
 
 fn route_line(n: u8, book: Book, source: u16, destination: u16, out: &mut [u8], at: usize) -> Next
-    requires { ⌜ (n ≤ 12) × (at + actionRoom ≤ length (now out)) ⌝ }
+    requires { ⌜ (n ≤ 12) × (Sound book) × (at + actionRoom ≤ length (now out)) ⌝ }
     ensures { λ r. ⌜ LineWritten n book (Action.Route source destination) (now (out .entry)) at (now (out .exit)) r ⌝ }
 {
-    let answer = router::route(book, source, destination);
+    let answer = router::routed(book, source, destination);
     let from = word(out, at, b"ROUTE ");
     let between = number(out, from, source);
     let to = word(out, between, b" ");

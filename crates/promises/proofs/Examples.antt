@@ -15,7 +15,8 @@ use Rattle.tags.specs.declared.Tag.{Tag}
 use Rattle.scheme.specs.Tags.{steered, stepsOf, statesOf, normalTag}
 use Rattle.tags.specs.Entries.{tagToStepsChecks, normalFormChecks}
 use Rattle.tags.proofs.Promises.{to-steps-accepts, form-accepts}
-use Rattle.frontier.specs.Frontier.{high, through, lesser, advanced, mirrored}
+use Rattle.frontier.specs.Columns.{high}
+use Rattle.frontier.specs.Frontier.{through, lesser, advanced, mirrored}
 use Rattle.book.specs.declared.Book.{Book}
 use Rattle.book.specs.Standing.{standing, stopper, stopsOf}
 use Rattle.standing.specs.Rising.{stands, insert, without, misfiled, littered}

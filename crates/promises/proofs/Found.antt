@@ -6,21 +6,22 @@ use Prim.Native.Nat.{ℕ, zero, suc, _+_, _*_, _<_}
 use native.Mathlib.Numerals.{add-one}
 use native.Mathlib.Omega.{arith}
 use borrow.Author.Tests.{ltb-true, ltb-false}
-use lib.Dec.{eqb, ltb}
+use lib.Dec.{ltb}
 use Rattle.fabric.specs.Labels.{size, bit}
 use Rattle.frontier.specs.declared.Front.{Front}
 use Rattle.paths.specs.Clear.{Rule}
-use Rattle.frontier.specs.Frontier.{start, high, lesser, advanced, mirrored, stopsFrom}
+use Rattle.frontier.specs.Columns.{highRight, straightAt, forkAt}
+use Rattle.frontier.specs.Stops.{stopsFrom}
+use Rattle.frontier.specs.Frontier.{start, lesser, advanced, mirrored}
 use Rattle.frontier.proofs.Places.{start-reached}
 use Rattle.frontier.proofs.Frontier.{Holds, looks-from, start-holds, advanced-holds}
 use Rattle.routes.specs.declared.Found.{Found}
 use Rattle.routes.specs.Routed.{Routed}
 use Rattle.crossing.proofs.Routing.{none-ahead, found-ahead}
 
--- the frontier one stage on, and the high switch of the next column with it
+-- the frontier one stage on
 abbrev onFront : ℕ → Rule → ℕ → ℕ → ℕ → Front → Front
-onFront n stops s d i f =
-    advanced n (eqb (bit i (high n s d i)) (bit i d)) (bit i d) (stopsFrom stops n i (high n s d i) (eqb (bit i (high n s d i)) (bit i d))) f
+onFront n stops s d i f = advanced n (highRight n s d i) (bit i d) (stopsFrom stops i (straightAt n s d i) (forkAt n s d i)) f
 
 -- on through a frontier that is reached; else the stage is named
 abbrev through : ℕ → Front → (Front → Found) → ℕ → Found
@@ -37,8 +38,8 @@ routeOf n stops s d = answerFrom n stops s d n 0 (start n)
 module _ (n : ℕ) (stops : Rule) (s d : ℕ) (source : s < size n) (dest : d < size n) where
   on-holds : (i : ℕ) → i < n → (f : Front) → Holds n stops s d i f → Holds n stops s d (suc i) (onFront n stops s d i f)
   on-holds i h f held =
-      let right : Bool = eqb (bit i (high n s d i)) (bit i d) in
-      advanced-holds n stops s d source i h right refl (stopsFrom stops n i (high n s d i) right) (looks-from n stops s d i right (stopsFrom stops n i (high n s d i) right) refl) f held
+      let x = stopsFrom stops i (straightAt n s d i) (forkAt n s d i) in
+      advanced-holds n stops s d source i h (highRight n s d i) refl x (looks-from n stops s d i (highRight n s d i) x refl) f held
 
   from-routed : (left i : ℕ) (f : Front) → i + left ≡ n → Holds n stops s d i f → lesser (f .high) (f .low) < size n → Routed n stops s d (answerFrom n stops s d left i f)
   unfolding answerFrom

@@ -1,3 +1,3 @@
-pub mod Marking
-pub mod Promises
-pub mod Filing
+pub mod Naming
+pub mod Telling
+pub mod Passing

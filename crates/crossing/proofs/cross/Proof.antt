@@ -1,4 +1,4 @@
--- The frontier holds the first clear walks to its two switches, for whatever rule the marks are of, and one of the two is
+-- The frontier holds the first clear walks to its two switches, for whatever rule stops those links, and one of the two is
 -- reached.
 use mathlib.Core.Path.{_≡_, sym, ap, subst, _∙_}
 use Prim.Native.Nat.{ℕ, _+_, _-_, _*_, _≤_, _<_}
@@ -11,20 +11,28 @@ use Rattle.fabric.specs.Labels.{size}
 use Rattle.frontier.proofs.Places.{few-labels, start-reached, advanced-small, small-fits}
 use Rattle.paths.specs.Clear.{Rule}
 use Rattle.frontier.proofs.Frontier.{Holds, start-holds}
+use Rattle.frontier.specs.declared.Front.{Front}
+use Rattle.frontier.specs.declared.Stops.{Stops}
+use Rattle.frontier.specs.Stops.{StopsUnder}
 use Rattle.frontier.specs.Frontier.{Small, lesser}
-use Rattle.crossing.specs.Marked.{Marked}
-use Rattle.crossing.proofs.Apart.{right-where}
+use Rattle.frontier.proofs.Apart.{right-where}
 use Rattle.crossing.proofs.Routing.{front-on, none-ahead, found-ahead}
 use Rattle.crossing.proofs.cross.Statement.{statement}
 use Rattle.crossing.proofs.cross.Tie as tie
 
+-- the frontier in column i
+record InColumn (n s d : ℕ) (stops : Stops) (i : ℕ) (front : Front) : Type 0 where
+  within : i ≤ n
+  high-fits : Small i (front .high)
+  low-fits : Small i (front .low)
+  reached : lesser (front .high) (front .low) < size n
+  holds : (rule : Rule) → StopsUnder n rule s d stops → Holds n rule s d i front
+
 abbrev Inv-loop : tie.InvT-loop
-Inv-loop n source destination marks apart front₀ i₀ front i =
-    (i ≤ n) × Small i (front .high) × Small i (front .low) × (lesser (front .high) (front .low) < size n)
-    × ((stops : Rule) → Marked n stops source destination marks → Holds n stops source destination i front)
+Inv-loop n source destination stops apart front₀ i₀ front i = InColumn n source destination stops i front
 
 abbrev μ-loop : tie.MeasureT-loop
-μ-loop n source destination marks apart front₀ i₀ front i = n - i
+μ-loop n source destination stops apart front₀ i₀ front i = n - i
 
 wrapping-sub-u16-requires : tie.Need-wrapping-sub-u16-requires Inv-loop μ-loop
 wrapping-sub-u16-requires c κs = search needs
@@ -36,22 +44,14 @@ loop-holds : tie.Need-loop-holds Inv-loop μ-loop
 loop-holds c =
     let a = c .before .before .args in
     let e = c .at-source .ensures in
-    let few = few-labels (a .n) (search needs) in (
-      search needs,
-      rw e (omega arith),
-      rw e (omega arith),
-      rw e (start-reached (a .n)),
-      λ stops marked. subst (Holds (a .n) stops (a .source) (a .destination) 0) (sym e) (start-holds (a .n) stops (a .source) (a .destination) (search needs)),
-    )
-
-cast-stops : tie.Need-cast-stops Inv-loop μ-loop
-cast-stops c = search needs
-
-mul-stops : tie.Need-mul-stops Inv-loop μ-loop
-mul-stops c = search needs
-
-array-copy-out-stops : tie.Need-array-copy-out-stops Inv-loop μ-loop
-array-copy-out-stops c = search needs
+    let few = few-labels (a .n) (search needs) in
+    record {
+      within = search needs;
+      high-fits = rw e (omega arith);
+      low-fits = rw e (omega arith);
+      reached = rw e (start-reached (a .n));
+      holds = λ rule under. subst (Holds (a .n) rule (a .source) (a .destination) 0) (sym e) (start-holds (a .n) rule (a .source) (a .destination) (search needs));
+    }
 
 bit-of-requires : tie.Need-bit-of-requires Inv-loop μ-loop
 bit-of-requires c κs = search needs
@@ -61,24 +61,24 @@ bit-of-requires-2 c κs = search needs
 
 advance-requires : tie.Need-advance-requires Inv-loop μ-loop
 advance-requires c κs =
-    let v = c .before .before .before .before .loop in
+    let v = c .before .before .before .loop in
     let h : v .i < 12 = search needs in
-    (search needs, search needs, small-fits (v .i) (v .front .high) h (v .inv .1), small-fits (v .i) (v .front .low) h (v .inv .2))
+    (search needs, h, search needs, small-fits (v .i) (v .front .high) h (v .inv .high-fits), small-fits (v .i) (v .front .low) h (v .inv .low-fits))
 
 reached-requires : tie.Need-reached-requires Inv-loop μ-loop
 reached-requires c κs = search needs
 
 returns : tie.Need-returns Inv-loop μ-loop
-returns c = λ stops marked.
-    let a = c .before .before .before .before .before .before .before .before .before .before .args in
-    let v = c .before .before .before .before .before .before .before .loop in
+returns c = λ rule under.
+    let a = c .before .before .before .before .before .before .before .before .before .args in
+    let v = c .before .before .before .before .before .before .loop in
     let w = v .inv in
     let right =
-    right-where (a .n) (a .source) (a .destination) _ (search needs) (search needs) (c .before .before .before .before .before .before .before .before .before .wrapping-sub-u16 .ensures) (v .i) (omega arith)
+    right-where (a .n) (a .source) (a .destination) _ (search needs) (search needs) (c .before .before .before .before .before .before .before .before .wrapping-sub-u16 .ensures) (v .i) (omega arith)
     ∙ ap (λ (b : ℕ). eqb b 0) (sym (c .before .before .before .bit-of2 .ensures .0)) in
-    let held = w .4 stops marked in
-    let next = front-on (a .n) stops (a .source) (a .destination) (search needs) (a .t4) marked (v .i) _ _ (omega arith) right (c .before .before .before .before .bit-of .ensures .0) (v .front) _ (c .before .before .advance .ensures) held in
-    none-ahead (a .n) stops (a .source) (a .destination) (search needs) (v .i) (omega arith) (v .front) _ held (w .3) next (c .before .reached .ensures .1 (not-true _ (c .if1 .taken)))
+    let held = w .holds rule under in
+    let next = front-on (a .n) rule (a .source) (a .destination) (search needs) (a .stops) under (v .i) _ _ (omega arith) right (c .before .before .before .before .bit-of .ensures .0) (v .front) _ (c .before .before .advance .ensures) held in
+    none-ahead (a .n) rule (a .source) (a .destination) (search needs) (v .i) (omega arith) (v .front) _ held (w .reached) next (c .before .reached .ensures .1 (not-true _ (c .if1 .taken)))
 
 add-i : tie.Need-add-i Inv-loop μ-loop
 add-i c = search needs
@@ -88,21 +88,23 @@ loop-less c = search needs
 
 loop-again : tie.Need-loop-again Inv-loop μ-loop
 loop-again c =
-    let a = c .before .before .before .before .before .before .before .before .before .before .args in
-    let v = c .before .before .before .before .before .before .before .loop in
+    let a = c .before .before .before .before .before .before .before .before .before .args in
+    let v = c .before .before .before .before .before .before .loop in
     let w = v .inv in
     let right =
-    right-where (a .n) (a .source) (a .destination) _ (search needs) (search needs) (c .before .before .before .before .before .before .before .before .before .wrapping-sub-u16 .ensures) (v .i) (omega arith)
+    right-where (a .n) (a .source) (a .destination) _ (search needs) (search needs) (c .before .before .before .before .before .before .before .before .wrapping-sub-u16 .ensures) (v .i) (omega arith)
     ∙ ap (λ (b : ℕ). eqb b 0) (sym (c .before .before .before .bit-of2 .ensures .0)) in
     let more = add-one (v .i) in
     let e = c .before .before .advance .ensures in
-    let small = advanced-small (a .n) (v .i) (search needs) _ (c .before .before .before .before .bit-of .result) _ (v .front) (search needs) (w .1) (w .2) in (
-      omega arith,
-      rw (more, e) (small .0),
-      rw (more, e) (small .1),
-      c .before .reached .ensures .0 (not-false _ (c .if1 .left)),
-      λ stops marked. front-on (a .n) stops (a .source) (a .destination) (search needs) (a .t4) marked (v .i) _ _ (omega arith) right (c .before .before .before .before .bit-of .ensures .0) (v .front) _ (c .before .before .advance .ensures) (w .4 stops marked),
-    )
+    let small = advanced-small (a .n) (v .i) (search needs) _ (c .before .before .before .before .bit-of .result) _ (v .front) (search needs) (w .high-fits) (w .low-fits) in
+    record {
+      within = omega arith;
+      high-fits = rw (more, e) (small .0);
+      low-fits = rw (more, e) (small .1);
+      reached = c .before .reached .ensures .0 (not-false _ (c .if1 .left));
+      holds = λ rule under.
+          front-on (a .n) rule (a .source) (a .destination) (search needs) (a .stops) under (v .i) _ _ (omega arith) right (c .before .before .before .before .bit-of .ensures .0) (v .front) _ e (w .holds rule under);
+    }
 
 first-states-requires : tie.Need-first-states-requires Inv-loop μ-loop
 first-states-requires c κs = search needs
@@ -111,10 +113,10 @@ joined-requires : tie.Need-joined-requires Inv-loop μ-loop
 joined-requires c κs = search needs
 
 returns-2 : tie.Need-returns-2 Inv-loop μ-loop
-returns-2 c = λ stops marked.
+returns-2 c = λ rule under.
     let a = c .before .before .before .before .before .before .args in
     let v = c .before .before .before .loop in
-    found-ahead (a .n) stops (a .source) (a .destination) (search needs) (search needs) (v .i) _ (omega arith) (v .front) (v .inv .4 stops marked) (v .inv .3)
+    found-ahead (a .n) rule (a .source) (a .destination) (search needs) (search needs) (v .i) _ (omega arith) (v .front) (v .inv .holds rule under) (v .inv .reached)
     (c .joined .ensures ∙ ap (λ (x : ℕ). a .destination + size (a .n) * x) (c .before .first-states .ensures .0))
 
 pub cross-spec : {M : Type 1} → statement M
@@ -126,9 +128,6 @@ cross-spec =
     wrapping-sub-u16-requires
     at-source-requires
     loop-holds
-    cast-stops
-    mul-stops
-    array-copy-out-stops
     bit-of-requires
     bit-of-requires-2
     advance-requires

@@ -17,7 +17,7 @@ lost-by-requires c κs = search needs
 add-result-2 : tie.Need-add-result-2
 add-result-2 c =
     let a = c .before .args in
-    let l = lost-small (a .n) (a .stop) (search needs) in
+    let l = lost-small (a .n) (a .stopped) (search needs) in
     let e = c .lost-by .ensures in
     omega arith
 

@@ -1,11 +1,7 @@
--- A number that is 0 stops nothing.
+-- The two cases are whether the link is stopped.
 use borrow.Author.Needs.{needs}
-use Rattle.frontier.proofs.Places.{clear-lost, stopped-lost}
 use Rattle.frontier.proofs.lost_by.Statement.{statement}
 use Rattle.frontier.proofs.lost_by.Tie as tie
-
-returns : tie.Need-returns
-returns c = search (clear-lost)
 
 size-requires : tie.Need-size-requires
 size-requires c κs = search needs
@@ -13,8 +9,11 @@ size-requires c κs = search needs
 cast-result : tie.Need-cast-result
 cast-result c = search needs
 
+returns : tie.Need-returns
+returns c = rw (c .before .if1 .taken) (c .size .ensures)
+
 returns-2 : tie.Need-returns-2
-returns-2 c = search (stopped-lost)
+returns-2 c = search needs
 
 pub lost-by-spec : {M : Type 1} → statement M
-lost-by-spec = tie.close (tie.spec returns size-requires cast-result returns-2)
+lost-by-spec = tie.close (tie.spec size-requires cast-result returns returns-2)

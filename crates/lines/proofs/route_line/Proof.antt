@@ -7,8 +7,8 @@ use Rattle.changes.proofs.After.{nothing-changes}
 use Rattle.lines.proofs.route_line.Statement.{statement}
 use Rattle.lines.proofs.route_line.Tie as tie
 
-route-requires : tie.Need-route-requires
-route-requires c κs = search needs
+routed-requires : tie.Need-routed-requires
+routed-requires c κs = search needs
 
 slice-aggregate-word : tie.Need-slice-aggregate-word
 slice-aggregate-word c = search needs
@@ -37,7 +37,7 @@ same-length c = search needs
 returns : tie.Need-returns
 returns c =
     let a = c .before .before .before .before .before .before .before .before .before .before .before .before .before .before .before .before .before .before .before .before .before .before .before .before .args in
-    let found = c .before .before .before .before .before .before .before .before .before .before .before .before .before .before .before .before .before .before .before .before .before .before .route in
+    let found = c .before .before .before .before .before .before .before .before .before .before .before .before .before .before .before .before .before .before .before .before .before .before .routed in
     let first = c .before .before .before .before .before .before .before .before .before .before .before .before .before .before .before .before .before .before .before .word in
     let from = c .before .before .before .before .before .before .before .before .before .before .before .before .before .before .before .number in
     let blank = c .before .before .before .before .before .before .before .before .before .before .word2 in
@@ -65,7 +65,7 @@ pub route-line-spec : {M : Type 1} → statement M
 route-line-spec =
     tie.close
     (tie.spec
-    route-requires
+    routed-requires
     slice-aggregate-word
     word-requires
     number-requires

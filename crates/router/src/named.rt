@@ -1,0 +1,126 @@
+// Which links on ways from a source to a destination a notice names. It is held against the two switches of its own stage alone.
+// A notice of one switch names neither in most questions, and is passed over; a pattern is not, since a test of it is wrong too often.
+use frontier::Stops;
+use frontier::with_stage;
+use notices::Notice;
+use notices::Target;
+ghost use mathlib.Core.Path.{_≡_};
+ghost use mathlib.Core.Bool.{false};
+ghost use Prim.Native.Nat.{ℕ, _≤_, _<_};
+ghost use Rattle.notices.specs.declared.Target.the-variants.{Links, Switch, Pattern};
+ghost use Rattle.notices.specs.Targets.{unfit};
+ghost use Rattle.router.specs.Named.{Ways, WithTarget, WithSet};
+
+// What is stopped, with the links more that a notice names.
+pub fn with_notice(
+    n: u8,
+    straights: &[u16; 13],
+    forks: &[u16; 13],
+    x: Notice,
+    stops: Stops,
+) -> Stops
+    requires { ⌜ (n ≤ 12) × (unfit n (x .target) ≡ false) × Ways n (now straights) (now forks) ⌝ }
+    ensures { λ r. ⌜ WithTarget n (now (straights .entry)) (now (forks .entry)) (x .target) stops r ⌝ }
+{
+    let t = x.target;
+    match t {
+        Target::Links { stage, switch, set } => with_links(
+            straights,
+            forks,
+            stage,
+            switch,
+            set,
+            stops,
+        ),
+        Target::Switch { column, switch } => with_switch(
+            n,
+            straights,
+            forks,
+            column,
+            switch,
+            stops,
+        ),
+        Target::Pattern {
+            stage,
+            value,
+            mask,
+            set,
+        } => with_pattern(straights, forks, stage, value, mask, set, stops),
+    }
+}
+
+fn with_links(
+    straights: &[u16; 13],
+    forks: &[u16; 13],
+    stage: u8,
+    switch: u16,
+    set: u8,
+    stops: Stops,
+) -> Stops
+    requires { ⌜ stage ≤ 12 ⌝ }
+    ensures { λ r. ⌜ ((n : ℕ) → WithTarget n (now (straights .entry)) (now (forks .entry)) (Links stage switch set) stops r) ⌝ }
+{
+    let straight = straights[stage as usize] == switch;
+    let fork = forks[stage as usize] == switch;
+    if table::either(straight, fork) {
+        return with_set(stage, straight, fork, set, stops);
+    }
+    stops
+}
+
+fn with_pattern(
+    straights: &[u16; 13],
+    forks: &[u16; 13],
+    stage: u8,
+    value: u16,
+    mask: u16,
+    set: u8,
+    stops: Stops,
+) -> Stops
+    requires { ⌜ stage ≤ 12 ⌝ }
+    ensures { λ r. ⌜ ((n : ℕ) → WithTarget n (now (straights .entry)) (now (forks .entry)) (Pattern stage value mask set) stops r) ⌝ }
+{
+    let straight = straights[stage as usize] & mask == value;
+    let fork = forks[stage as usize] & mask == value;
+    with_set(stage, straight, fork, set, stops)
+}
+
+// The links of a set, where it is of the switch that goes straight and where it is of the one that forks.
+fn with_set(stage: u8, straight: bool, fork: bool, set: u8, stops: Stops) -> Stops
+    requires { ⌜ stage ≤ 12 ⌝ }
+    ensures { λ r. ⌜ WithSet stage straight fork set stops r ⌝ }
+{
+    let links = set as u16;
+    with_stage(
+        stops,
+        stage,
+        table::both(straight, fabric::bit_of(0, links) == 1),
+        table::both(fork, fabric::bit_of(1, links) == 1),
+        table::both(fork, fabric::bit_of(2, links) == 1),
+    )
+}
+
+// The input links of a switch, which leave the column before its own. Where the straight link leads, plus or minus leads as well.
+fn with_switch(
+    n: u8,
+    straights: &[u16; 13],
+    forks: &[u16; 13],
+    column: u8,
+    switch: u16,
+    stops: Stops,
+) -> Stops
+    requires { ⌜ (n ≤ 12) × (column ≤ n) × Ways n (now straights) (now forks) ⌝ }
+    ensures { λ r. ⌜ WithTarget n (now (straights .entry)) (now (forks .entry)) (Switch column switch) stops r ⌝ }
+{
+    if column == 0 {
+        return stops;
+    }
+    let i = column - 1;
+    let fork = forks[i as usize];
+    let plus = fabric::landing(n, i, 1, fork) == switch;
+    let minus = fabric::landing(n, i, 2, fork) == switch;
+    if table::either(plus, minus) {
+        return with_stage(stops, i, straights[i as usize] == switch, plus, minus);
+    }
+    stops
+}
