@@ -1,6 +1,6 @@
 // Document 01, 'The sheet and what is printed': what an answer prints at the end of its line, written at a place of lent memory.
-use book::Answer;
 use routes::Found;
+use table::Answer;
 use words::bits;
 use words::number_told;
 use words::refusal_told;

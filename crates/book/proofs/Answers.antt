@@ -9,15 +9,15 @@ use lib.Dec.{leb}
 use lib.ListN.{length}
 use Rattle.table.specs.declared.Refusal.{Refusal}
 use Rattle.table.specs.Numbers.{numberOf}
-use Rattle.table.specs.Reply.{Reply, refused}
+use Rattle.table.specs.Reply.{Reply, refused, answerSays}
 use Rattle.table.specs.Checks.{Check, Given, Passed, _notBelow_}
 use Rattle.table.proofs.Checks.{given-refuses, passed-accepts, neither}
 use Rattle.book.specs.declared.Book.{Book}
 use Rattle.book.specs.declared.Kept.{Kept}
-use Rattle.book.specs.declared.Answer.{Answer}
+use Rattle.table.specs.declared.Answer.{Answer}
 use Rattle.book.specs.declared.Link.{Link}
 use Rattle.book.specs.Standing.{standing, stopper, Sound}
-use Rattle.book.specs.Entries.{answerSays, HandsBack, linkChecks, Tests}
+use Rattle.book.specs.Entries.{HandsBack, linkChecks, Tests}
 use Rattle.book.proofs.Filings.{length-standing}
 use Rattle.book.proofs.Testing.{said, says-tests}
 

@@ -12,7 +12,7 @@ use lib.ListN.{length, take, drop, getD}
 use lib.Seq.{take-at, drop-at}
 use Rattle.table.specs.declared.Refusal.{Refusal}
 use Rattle.table.specs.Numbers.{numberOf}
-use Rattle.table.specs.Reply.{Reply, refused, Numbered}
+use Rattle.table.specs.Reply.{Reply, refused, Numbered, answerSays}
 use Rattle.table.specs.Checks.{Check, Given, Given.here, Given.later, Passed, Passed.none, Passed.passes, _when_, _below_, _notBelow_, numbers}
 use Rattle.table.proofs.Numbers.{above-zero}
 use Rattle.table.proofs.Checks.{given-refuses, passed-accepts, accepted-passed, refused-given, passed-nth, neither, neither-of}
@@ -22,13 +22,13 @@ use Rattle.notices.specs.declared.Notice.{Notice}
 use Rattle.notices.specs.Targets.{outsideFabric, badField, tooWide, unfit}
 use Rattle.book.specs.declared.Book.{Book}
 use Rattle.book.specs.declared.Kept.{Kept}
-use Rattle.book.specs.declared.Answer.{Answer}
+use Rattle.table.specs.declared.Answer.{Answer}
 use Rattle.book.specs.declared.Link.{Link}
 use Rattle.book.specs.declared.Listing.{Listing}
 use Rattle.standing.specs.Rising.{stands, insert, without}
 use Rattle.actions.specs.Rows.{rows}
 use Rattle.book.specs.Standing.{standing, unsound, Sound, Stopped, stopsOf}
-use Rattle.book.specs.Entries.{answerSays, linkSays, listingSays, HandsBack, openChecks, opened, Opens, bookChecks, fileChecks, filed, Files, withdrawChecks, withdrawn, Withdraws, linkChecks, Tests, listingChecks, Lists}
+use Rattle.book.specs.Entries.{linkSays, listingSays, HandsBack, openChecks, opened, Opens, bookChecks, fileChecks, filed, Files, withdrawChecks, withdrawn, Withdraws, linkChecks, Tests, listingChecks, Lists}
 use Rattle.actions.proofs.Listings.{length-rows}
 use Rattle.standing.proofs.Members.{stands-member, member-stands, insert-has, insert-keeps, insert-member, without-keeps, without-member}
 use Rattle.book.proofs.Filings.{standing-of, sound-if}
@@ -166,10 +166,6 @@ module _ (b : Book) (memory : List ℕ) where
   )
 
 -- every refusal comes with a number of the table
-pub answer-numbered : (a : Answer) → Numbered (answerSays a)
-answer-numbered Answer.Done = tt
-answer-numbered (Answer.Refused why) = above-zero why
-
 pub link-numbered : (a : Link) → Numbered (linkSays a)
 link-numbered Link.Clear = tt
 link-numbered Link.Stopped = tt

@@ -2,6 +2,7 @@
 use mathlib.Core.Path.{_≡_, refl, sym, ap, ap₂, _∙_}
 use mathlib.Core.List.{List}
 use Prim.Native.Nat.{ℕ}
+use Rattle.table.proofs.Answers.{answer-tells}
 use Rattle.table.proofs.Checks.{zero-one}
 use Rattle.table.specs.declared.Refusal.{Refusal}
 use Rattle.table.specs.Numbers.{numberOf}
@@ -11,20 +12,14 @@ use Rattle.table.proofs.Numbers.{number-tells}
 use Rattle.notices.specs.declared.Notice.{Notice}
 use Rattle.book.specs.declared.Book.{Book}
 use Rattle.book.specs.declared.Kept.{Kept}
-use Rattle.book.specs.declared.Answer.{Answer}
+use Rattle.table.specs.declared.Answer.{Answer}
 use Rattle.book.specs.declared.Link.{Link}
 use Rattle.book.specs.declared.Listing.{Listing}
 use Rattle.book.proofs.Testing.{tests-says}
-use Rattle.book.specs.Entries.{answerSays, linkSays, listingSays, HandsBack, Opens, Files, Withdraws, Tests, Lists}
+use Rattle.book.specs.Entries.{linkSays, listingSays, HandsBack, Opens, Files, Withdraws, Tests, Lists}
 
 one-refusal : (v w : Refusal) → refused (numberOf v) ≡ refused (numberOf w) → v ≡ w
 one-refusal v w e = let n : numberOf v ≡ numberOf w = cc in number-tells v w n
-
-pub answer-tells : (a b : Answer) → answerSays a ≡ answerSays b → a ≡ b
-answer-tells Answer.Done Answer.Done e = refl
-answer-tells Answer.Done (Answer.Refused w) e = absurd (zero-one cc)
-answer-tells (Answer.Refused v) Answer.Done e = absurd (zero-one cc)
-answer-tells (Answer.Refused v) (Answer.Refused w) e = ap Answer.Refused (one-refusal v w e)
 
 pub link-tells : (a b : Link) → linkSays a ≡ linkSays b → a ≡ b
 link-tells Link.Clear Link.Clear e = refl

@@ -6,13 +6,12 @@ use Prim.Native.Nat.{ℕ, _*_}
 use lib.Dec.{eqb}
 use lib.ListN.{length, drop}
 use Rattle.table.specs.Numbers.{numberOf}
-use Rattle.table.specs.Reply.{Reply, refused}
+use Rattle.table.specs.Reply.{Reply, refused, answerSays}
 use Rattle.table.specs.Checks.{Check, Given, Passed, _when_, _below_, _notBelow_, checked}
 use Rattle.fabric.specs.Labels.{size, outsideSizes}
 use Rattle.notices.specs.declared.Notice.{Notice}
 use Rattle.book.specs.declared.Book.{Book}
 use Rattle.book.specs.declared.Kept.{Kept}
-use Rattle.book.specs.declared.Answer.{Answer}
 use Rattle.book.specs.declared.Link.{Link}
 use Rattle.book.specs.declared.Listing.{Listing}
 use Rattle.notices.specs.Targets.{outsideFabric, badField, tooWide}
@@ -21,13 +20,8 @@ use Rattle.standing.specs.Rising.{stands, insert, without}
 use Rattle.actions.specs.Layout.{actionLength}
 use Rattle.actions.specs.Rows.{rows}
 
--- The theorems named here stand in proofs/Entries.antt, unless another file is named. `answer-numbered`, `link-numbered` and `listing-numbered`: no
+-- The theorems named here stand in proofs/Entries.antt, unless another file is named. `link-numbered` and `listing-numbered`: no
 -- answer has number 0.
-
--- what an answer to open, file and withdraw says: `done-exactly`
-abbrev pub answerSays : Answer → Reply
-answerSays Answer.Done = Reply.accepted []
-answerSays (Answer.Refused why) = refused (numberOf why)
 
 -- what an answer to the link test says: 0 clear, 1 stopped, `link-says-exactly`
 abbrev pub linkSays : Link → Reply

@@ -1,5 +1,6 @@
 // Document 01, 'Notices': the book of notices, what its entries answer, and those that hand it back: open, file, withdraw.
 use notices::Notice;
+use table::Answer;
 use table::Refusal;
 ghost use mathlib.Core.Path.{_≡_};
 ghost use mathlib.Core.Bool.{false};
@@ -15,12 +16,6 @@ pub struct Book {
     pub n: u8,
     pub count: usize,
     pub notices: [Notice; 48],
-}
-
-// What open, file and withdraw answer.
-pub enum Answer {
-    Done,
-    Refused(Refusal),
 }
 
 // The book handed back with the answer.

@@ -1,6 +1,5 @@
 // Runs the book's entries on document 01's example 13, on a full book, on every refusal that they give, and on damaged books,
 // and writes a line for each call.
-use book::Answer;
 use book::Book;
 use book::Link;
 use book::Listing;
@@ -9,6 +8,7 @@ use notices::Target;
 use show::number;
 use show::refused;
 use show::word;
+use table::Answer;
 
 mod full; // full.rt: 48 filings and the 49th
 mod refusals; // refusals.rt: each number of the table

@@ -9,7 +9,7 @@ use borrow.Author.Tests.{eqb-false, leb-false, le-ltb}
 use lib.ListN.{length, getD, replicate}
 use lib.Seq.{drop-append-seam}
 use Rattle.table.proofs.Checks.{neither-of, given-refuses, passed-accepts, given-or-passed, passed-nth, zero-one}
-use Rattle.table.specs.Reply.{Reply, refused}
+use Rattle.table.specs.Reply.{Reply, refused, answerSays}
 use Rattle.table.specs.Checks.{Given, Passed, _when_, _below_}
 use Rattle.fabric.specs.Labels.{outsideSizes}
 use Rattle.notices.specs.declared.Notice.{Notice}
@@ -18,7 +18,7 @@ use Rattle.notices.specs.Targets.{unfit}
 use Rattle.standing.specs.Rising.{filler, insert, without, Filed, misfiled, littered}
 use Rattle.book.specs.Standing.{standing, unused, bookOf, unsound}
 use Rattle.book.specs.declared.Kept.{Kept}
-use Rattle.book.specs.Entries.{answerSays, opened, Opens, Files, Withdraws, fileChecks}
+use Rattle.book.specs.Entries.{opened, Opens, Files, Withdraws, fileChecks}
 use Rattle.book.proofs.Filings.{standing-of}
 use Rattle.changes.specs.Runs.{Change, changeChecks, changed, answer, after, Accepted}
 use Rattle.standing.proofs.Filings.{filed-passes, filler-unlittered}

@@ -3,19 +3,20 @@
 use mathlib.Core.Path.{_≡_, ap, sym, _∙_}
 use mathlib.Core.List.{List}
 use Prim.Native.Nat.{ℕ}
+use Rattle.table.specs.Reply.{answerSays}
 use Rattle.packing.specs.Packed.{packed, Tells}
-use Rattle.tags.specs.Entries.{writtenSays, TagToSteps}
+use Rattle.tags.specs.Entries.{TagToSteps}
 use Rattle.tags.proofs.Entries.{tag-to-steps-once}
-use Rattle.tags.specs.declared.Written.{Written}
+use Rattle.table.specs.declared.Answer.{Answer}
 use Rattle.printed.specs.declared.Ran.{Ran}
 use Rattle.printed.specs.Runs.{ranSays, Runs}
 use Rattle.printed.proofs.RunOnce.{run-once}
 
 pub steps-told-once : (n s tag : ℕ) (before after later : List ℕ) (q r : ℕ)
-    → Tells (λ a. TagToSteps n s tag before a after) writtenSays q → Tells (λ a. TagToSteps n s tag before a later) writtenSays r → (q ≡ r) × (after ≡ later)
+    → Tells (λ a. TagToSteps n s tag before a after) answerSays q → Tells (λ a. TagToSteps n s tag before a later) answerSays r → (q ≡ r) × (after ≡ later)
 steps-told-once n s tag before after later q r v w =
     let e = tag-to-steps-once n s tag before (v .0) (w .0) after later (v .1) (w .1) in
-    (v .2 ∙ ap (λ (a : Written). packed (writtenSays a)) (e .0) ∙ sym (w .2), e .1)
+    (v .2 ∙ ap (λ (a : Answer). packed (answerSays a)) (e .0) ∙ sym (w .2), e .1)
 
 pub run-told-once : (sheet before after later : List ℕ) (q r : ℕ)
     → Tells (λ a. Runs sheet before a after) ranSays q → Tells (λ a. Runs sheet before a later) ranSays r → (q ≡ r) × (after ≡ later)

@@ -16,20 +16,19 @@ use packer::listed;
 use packer::ran;
 use packer::refused;
 use packer::tag_told;
-use packer::there_told;
-use packer::written;
 use sheet::Header;
-use sheet::There;
+use table::Answer;
+ghost use Rattle.table.specs.Reply.{answerSays};
 ghost use mathlib.Core.Path.{_≡_};
 ghost use Prim.Native.Nat.{_+_, _*_};
 ghost use lib.ListN.{length};
-ghost use Rattle.tags.specs.Entries.{writtenSays, tagSays, TagToSteps, StepsToTag, NormalForm};
+ghost use Rattle.tags.specs.Entries.{tagSays, TagToSteps, StepsToTag, NormalForm};
 ghost use Rattle.notices.specs.declared.Target.the-variants.{Links, Switch, Pattern};
 ghost use Rattle.book.specs.Entries.{linkSays, Opens, Files, Withdraws, Tests};
 ghost use Rattle.walks.specs.Entries.{walkSays, Walks};
 ghost use Rattle.routes.specs.Routed.{routeSays, Routes};
 ghost use Rattle.actions.specs.Entries.{ReadsAction};
-ghost use Rattle.sheet.specs.Entries.{headerSays, thereSays, ReadsHeader, HasAction, startOf, partOf};
+ghost use Rattle.sheet.specs.Entries.{headerSays, ReadsHeader, HasAction, startOf, partOf};
 ghost use Rattle.printed.specs.Runs.{ranSays, Runs};
 ghost use Rattle.packing.specs.Packed.{byte, Tells};
 ghost use Rattle.fields.specs.Fields.{kindSays, ReadsFields};
@@ -38,9 +37,9 @@ ghost use Rattle.handed.specs.Books.{keptSays, OverSheet, ListsOver};
 // "tag to steps (n, source, tag, memory)"
 #[no_mangle]
 pub extern "C" fn tabashfar_tag_to_steps(n: u8, source: u16, tag: u32, memory: &mut [u8]) -> u64
-    ensures { λ r. ⌜ Tells (λ a. TagToSteps n source tag (now (memory .entry)) a (now (memory .exit))) writtenSays r ⌝ }
+    ensures { λ r. ⌜ Tells (λ a. TagToSteps n source tag (now (memory .entry)) a (now (memory .exit))) answerSays r ⌝ }
 {
-    written(tagging::tag_to_steps(n, source, tag, memory))
+    answered(tagging::tag_to_steps(n, source, tag, memory))
 }
 
 // "steps to tag (n, source, memory)"
@@ -223,9 +222,9 @@ pub extern "C" fn tabashfar_header(sheet: &[u8]) -> u64
 // "For a sheet and k, counted from 0, one entry says whether the action is there"
 #[no_mangle]
 pub extern "C" fn tabashfar_has_action(sheet: &[u8], k: usize) -> u64
-    ensures { λ r. ⌜ Tells (HasAction (now (sheet .entry)) k) thereSays r ⌝ }
+    ensures { λ r. ⌜ Tells (HasAction (now (sheet .entry)) k) answerSays r ⌝ }
 {
-    there_told(sheet_reader::has_action(sheet, k))
+    answered(sheet_reader::has_action(sheet, k))
 }
 
 // "A second entry returns a part only": how long it is in the low byte, and from bit 8 on where in the sheet it starts
@@ -234,8 +233,8 @@ pub extern "C" fn tabashfar_action_part(sheet: &[u8], k: usize) -> u64
     ensures { λ r. ⌜ r ≡ length (partOf (now (sheet .entry)) k) + byte * startOf (now (sheet .entry)) k ⌝ }
 {
     match sheet_reader::has_action(sheet, k) {
-        There::Yes => ACTION_LENGTH as u64 + BYTE * (HEADER_LENGTH + ACTION_LENGTH * k) as u64,
-        There::Refused(_) => 0,
+        Answer::Done => ACTION_LENGTH as u64 + BYTE * (HEADER_LENGTH + ACTION_LENGTH * k) as u64,
+        Answer::Refused(_) => 0,
     }
 }
 

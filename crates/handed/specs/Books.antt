@@ -3,11 +3,11 @@ use mathlib.Core.Path.{_≡_}
 use mathlib.Core.List.{List}
 use Prim.Native.Nat.{ℕ}
 use Rattle.table.specs.Numbers.{numberOf}
-use Rattle.table.specs.Reply.{Reply}
+use Rattle.table.specs.Reply.{Reply, answerSays}
 use Rattle.packing.specs.Packed.{Tells}
 use Rattle.book.specs.declared.Book.{Book}
 use Rattle.book.specs.declared.Kept.{Kept}
-use Rattle.book.specs.Entries.{answerSays, listingSays, Lists}
+use Rattle.book.specs.Entries.{listingSays, Lists}
 use Rattle.changes.specs.After.{After}
 use Rattle.sheet.specs.declared.Header.{Header}
 use Rattle.sheet.specs.Entries.{ReadsHeader}

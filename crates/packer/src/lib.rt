@@ -1,22 +1,21 @@
 // An answer as one number (`packed`): the table's number in the low byte, 0 where the call was accepted, and the value after it.
-use book::Answer;
 use book::Link;
 use book::Listing;
 use printed::Ran;
 use routes::Found;
 use sheet::Header;
-use sheet::There;
+use table::Answer;
 use table::Refusal;
 use tags::Tag;
-use tags::Written;
 use walks::Ended;
+ghost use Rattle.table.specs.Reply.{answerSays};
 ghost use mathlib.Core.Path.{_≡_};
 ghost use Prim.Native.Nat.{ℕ, _≤_};
-ghost use Rattle.tags.specs.Entries.{writtenSays, tagSays};
-ghost use Rattle.book.specs.Entries.{answerSays, linkSays, listingSays};
+ghost use Rattle.tags.specs.Entries.{tagSays};
+ghost use Rattle.book.specs.Entries.{linkSays, listingSays};
 ghost use Rattle.walks.specs.Entries.{walkSays};
 ghost use Rattle.routes.specs.Routed.{routeSays};
-ghost use Rattle.sheet.specs.Entries.{headerSays, thereSays};
+ghost use Rattle.sheet.specs.Entries.{headerSays};
 ghost use Rattle.printed.specs.Runs.{mostRoom, ranSays};
 ghost use Rattle.table.specs.Numbers.{numberOf};
 ghost use Rattle.packing.specs.Packed.{packed};
@@ -29,15 +28,6 @@ pub fn refused(why: Refusal) -> u64
     ensures { λ r. ⌜ r ≡ numberOf why ⌝ }
 {
     table::number(why) as u64
-}
-
-pub fn written(answer: Written) -> u64
-    ensures { λ r. ⌜ r ≡ packed (writtenSays answer) ⌝ }
-{
-    match answer {
-        Written::Done => 0,
-        Written::Refused(why) => refused(why),
-    }
 }
 
 pub fn tag_told(answer: Tag) -> u64
@@ -105,15 +95,6 @@ pub fn header_told(answer: Header) -> u64
     match answer {
         Header::Sheet { n, count } => BYTE * (n as u64 + BYTE * count as u64),
         Header::Refused(why) => refused(why),
-    }
-}
-
-pub fn there_told(answer: There) -> u64
-    ensures { λ r. ⌜ r ≡ packed (thereSays answer) ⌝ }
-{
-    match answer {
-        There::Yes => 0,
-        There::Refused(why) => refused(why),
     }
 }
 

@@ -6,7 +6,7 @@ use Rattle.table.specs.declared.Refusal.{Refusal}
 use Rattle.table.specs.Numbers.{numberOf}
 use Rattle.printed.specs.Words.{ascii, decimal, tagBits, ending, refusal}
 use Rattle.printed.proofs.WordsSpelled.{Words, nine-are-words, decimal-is-a-word, bits-are-a-word}
-use Rattle.book.specs.declared.Answer.{Answer}
+use Rattle.table.specs.declared.Answer.{Answer}
 use Rattle.routes.specs.declared.Found.{Found}
 use Rattle.printed.specs.Told.{told, foundTold}
 

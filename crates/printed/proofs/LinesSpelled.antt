@@ -6,7 +6,7 @@ use Rattle.table.specs.declared.Refusal.{Refusal}
 use Rattle.table.specs.Numbers.{numberOf}
 use Rattle.printed.specs.Words.{ascii, decimalIn, decimal, bitsFrom, ending}
 use Rattle.printed.specs.Told.{told, foundTold}
-use Rattle.book.specs.declared.Answer.{Answer}
+use Rattle.table.specs.declared.Answer.{Answer}
 use Rattle.routes.specs.declared.Found.{Found}
 use Rattle.printed.specs.Text.{sheetLine, refusedSheet, fileLine, withdrawLine, routeLine, faultLine}
 

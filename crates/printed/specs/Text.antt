@@ -5,7 +5,7 @@ use Prim.Native.Nat.{ℕ}
 use Rattle.table.specs.declared.Refusal.{Refusal}
 use Rattle.printed.specs.Told.{told, foundTold}
 use Rattle.printed.specs.Words.{decimal, line, refusal, SHEET, FILE, WITHDRAW, ROUTE, ACTION}
-use Rattle.book.specs.declared.Answer.{Answer}
+use Rattle.table.specs.declared.Answer.{Answer}
 use Rattle.routes.specs.declared.Found.{Found}
 
 -- "First line: `SHEET n count`, or only `SHEET REFUSED k`.": `sheet-spelled`, `refused-sheet-spelled`

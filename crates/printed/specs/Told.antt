@@ -2,7 +2,7 @@
 use mathlib.Core.List.{List, [], _∷_}
 use Prim.Native.Nat.{ℕ}
 use Rattle.printed.specs.Words.{decimal, tagBits, refusal, OK, TAG, NONE}
-use Rattle.book.specs.declared.Answer.{Answer}
+use Rattle.table.specs.declared.Answer.{Answer}
 use Rattle.routes.specs.declared.Found.{Found}
 
 -- "`OK`, or `REFUSED` and the table number": `told-spelled`

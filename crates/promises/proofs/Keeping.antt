@@ -9,20 +9,20 @@ use borrow.Author.Tests.{leb-false}
 use lib.Dec.{eqb}
 use Rattle.table.specs.declared.Refusal.{Refusal}
 use Rattle.table.specs.Numbers.{numberOf}
-use Rattle.table.specs.Reply.{Reply, Reply.accepted, refused}
+use Rattle.table.specs.Reply.{Reply, Reply.accepted, refused, answerSays}
 use Rattle.table.specs.Checks.{Check, checked, Given, Given.here, Given.later, _notBelow_}
 use Rattle.table.proofs.Numbers.{byNumber}
 use Rattle.table.proofs.Checks.{given-refuses, passed-accepts, passed-nth, neither}
 use Rattle.fabric.specs.Labels.{size}
 use Rattle.notices.specs.declared.Notice.{Notice}
 use Rattle.book.specs.declared.Book.{Book}
-use Rattle.book.specs.declared.Answer.{Answer}
+use Rattle.table.specs.declared.Answer.{Answer}
 use Rattle.book.specs.declared.Link.{Link}
 use Rattle.book.specs.Standing.{standing, stopper, stopsOf}
 use Rattle.book.proofs.Testing.{says-tests}
-use Rattle.book.specs.Entries.{answerSays, linkSays, opened, fileChecks, withdrawChecks, linkChecks, Tests}
+use Rattle.book.specs.Entries.{linkSays, opened, fileChecks, withdrawChecks, linkChecks, Tests}
 use Rattle.changes.specs.Runs.{Change, changeChecks, answer, after, Accepted, run, NotWithdrawn, StandsSince}
-use Rattle.book.proofs.Once.{answer-tells}
+use Rattle.table.proofs.Answers.{answer-tells}
 use Rattle.changes.proofs.Since.{link-exactly}
 use Rattle.routes.specs.declared.Found.{Found}
 use Rattle.routes.specs.Routed.{routeSays, Routed, routeChecks, Routes}

@@ -7,7 +7,7 @@ use mathlib.Core.Logic.{⊎-elim}
 use Prim.Native.Nat.{ℕ, suc}
 use native.Mathlib.Omega.{arith}
 use Rattle.table.specs.Numbers.{numberOf}
-use Rattle.table.specs.Reply.{Reply.accepted, refused}
+use Rattle.table.specs.Reply.{Reply.accepted, refused, answerSays}
 use Rattle.table.specs.Checks.{Passed}
 use Rattle.table.proofs.Checks.{given-or-passed, zero-one}
 use Rattle.fabric.specs.Labels.{outsideSizes}
@@ -19,7 +19,7 @@ use Rattle.book.specs.declared.Book.{Book}
 use Rattle.book.specs.declared.Link.{Link}
 use Rattle.book.specs.Standing.{stopper, stopsOf}
 use Rattle.standing.specs.Rising.{stands, insert, misfiled, littered}
-use Rattle.book.specs.Entries.{answerSays, opened}
+use Rattle.book.specs.Entries.{opened}
 use Rattle.changes.specs.Runs.{Change, run}
 use Rattle.routes.specs.declared.Found.{Found}
 use Rattle.routes.specs.Routed.{Routed, routeChecks, Routes}

@@ -16,7 +16,7 @@ use Rattle.paths.specs.Clear.{ClearPath, StageNamed}
 use Rattle.notices.specs.declared.Notice.{Notice}
 use Rattle.notices.specs.Targets.{names}
 use Rattle.book.specs.declared.Book.{Book}
-use Rattle.book.specs.declared.Answer.{Answer}
+use Rattle.table.specs.declared.Answer.{Answer}
 use Rattle.book.specs.declared.Link.{Link}
 use Rattle.book.specs.Standing.{stopsOf}
 use Rattle.book.specs.Entries.{Files}

@@ -3,7 +3,7 @@ use mathlib.Core.List.{List, [], _∷_}
 use Prim.Native.Nat.{ℕ}
 use lib.ListN.{replicate}
 use Rattle.tags.specs.declared.Tag.{Tag}
-use Rattle.tags.specs.declared.Written.{Written}
+use Rattle.table.specs.declared.Answer.{Answer}
 use Rattle.tags.specs.Entries.{TagToSteps, NormalForm}
 use Rattle.notices.specs.declared.Target.the-variants.{Links}
 use Rattle.book.specs.declared.Link.{Link}
@@ -26,7 +26,7 @@ pub data Example : Type 0 where
 abbrev pub Claim : Example → Type 0
 Claim (Example.route n changes s d answer) = AllAccepted changes (opened n) × Routes (run changes (opened n)) s d answer
 Claim (Example.normal n s tag form) = NormalForm n s tag (Tag.Normal form)
-Claim (Example.steps n s tag cs) = TagToSteps n s tag (replicate n 0) Written.Done cs
+Claim (Example.steps n s tag cs) = TagToSteps n s tag (replicate n 0) Answer.Done cs
 Claim (Example.stopped n changes i j c) = AllAccepted changes (opened n) × Tests (run changes (opened n)) i j c Link.Stopped
 
 -- a filing of links of one switch, by number: stage, switch, set (straight 1, plus 2, minus 4)

@@ -9,16 +9,16 @@ use borrow.Author.Tests.{le-ltb, ltb-false, leb-false}
 use lib.ListN.{length, take, drop, getD, take-append-drop}
 use lib.Seq.{getD-take, getD-drop}
 use Rattle.table.specs.declared.Refusal.{Refusal}
-use Rattle.table.specs.Reply.{Reply, Numbered, refused}
+use Rattle.table.specs.Reply.{Reply, Numbered, refused, answerSays}
 use Rattle.table.specs.Checks.{checked, _below_, Given, Given.here, Given.later, Passed, Passed.none, Passed.passes}
 use Rattle.table.proofs.Numbers.{above-zero}
 use Rattle.table.proofs.Checks.{passed-accepts, accepted-passed, refused-given, passed-nth, neither, neither-of, zero-one}
 use Rattle.fabric.specs.Labels.{outsideSizes}
 use Rattle.sheet.specs.declared.Header.{Header}
-use Rattle.sheet.specs.declared.There.{There}
+use Rattle.table.specs.declared.Answer.{Answer}
 use Rattle.actions.specs.Layout.{bytesBefore}
 use Rattle.sheet.specs.Format.{headerBytes, sizeIn, countIn}
-use Rattle.sheet.specs.Entries.{headerSays, thereSays, wrongMark, wrongLength, headerChecks, thereChecks, ReadsHeader, HasAction, startOf, partOf}
+use Rattle.sheet.specs.Entries.{headerSays, wrongMark, wrongLength, headerChecks, thereChecks, ReadsHeader, HasAction, startOf, partOf}
 use Rattle.sheet.proofs.Meanings.{length-exactly}
 use Rattle.sheet.proofs.Promises.{header-accepts, there-passed, there-yes, start-there, part-nowhere, start-nowhere}
 use Rattle.sheet.proofs.Sheets.{header-read, header-written, there-once}
@@ -26,10 +26,6 @@ use Rattle.sheet.proofs.Sheets.{header-read, header-written, there-once
 pub header-numbered : (h : Header) → Numbered (headerSays h)
 header-numbered (Header.Sheet n count) = tt
 header-numbered (Header.Refused why) = above-zero why
-
-pub there-numbered : (t : There) → Numbered (thereSays t)
-there-numbered There.Yes = tt
-there-numbered (There.Refused why) = above-zero why
 
 -- 14: "sheet under 8 bytes, wrong mark or version": where no header stands at the sheet's front
 pub fourteen-exactly : (sheet : List ℕ) → ((i : ℕ) → getD sheet i 0 < 256) → (h : Header) → ReadsHeader sheet h
@@ -118,11 +114,11 @@ module _ (n count : ℕ) (rest : List ℕ) (h : Header) (r : ReadsHeader (header
   )
 
 -- "one entry says whether the action is there": where the header is accepted and k is below its count
-pub there-exactly : (sheet : List ℕ) (k : ℕ) (t : There) → HasAction sheet k t
-    → (thereSays t ≡ Reply.accepted []) ↔ ((n count : ℕ) × ReadsHeader sheet (Header.Sheet n count) × (k < count))
+pub there-exactly : (sheet : List ℕ) (k : ℕ) (t : Answer) → HasAction sheet k t
+    → (answerSays t ≡ Reply.accepted []) ↔ ((n count : ℕ) × ReadsHeader sheet (Header.Sheet n count) × (k < count))
 there-exactly sheet k t r = (
   (λ e. header (accepted-passed (thereChecks sheet k) [] [] (sym e ∙ r .says))),
-  (λ w. ap thereSays (there-once sheet k t There.Yes r (there-yes (w .2) refl (w .3)))),
+  (λ w. ap answerSays (there-once sheet k t Answer.Done r (there-yes (w .2) refl (w .3)))),
 )
   where
     header : Passed (thereChecks sheet k) → (n count : ℕ) × ReadsHeader sheet (Header.Sheet n count) × (k < count)
@@ -130,7 +126,7 @@ there-exactly sheet k t r = (
         (sizeIn sheet, countIn sheet, header-accepts (passes a (passes b (passes c none))) refl, leb-false (countIn sheet) k d)
 
 -- "action k is handed back as those ten bytes of the sheet themselves": bytes 8 + 10k to 17 + 10k; `part-is-ten` says that there are no more
-pub part-bytes : (sheet : List ℕ) (k : ℕ) → HasAction sheet k There.Yes
+pub part-bytes : (sheet : List ℕ) (k : ℕ) → HasAction sheet k Answer.Done
     → (startOf sheet k ≡ 8 + 10 * k) × ((i : ℕ) → i < 10 → getD (partOf sheet k) i 0 ≡ getD sheet (8 + 10 * k + i) 0)
 part-bytes sheet k r = (
   sym (start-there r refl),
@@ -138,5 +134,5 @@ part-bytes sheet k r = (
 )
 
 -- "otherwise the empty part at the sheet's front"
-pub part-empty : (sheet : List ℕ) (k : ℕ) (why : Refusal) → HasAction sheet k (There.Refused why) → (startOf sheet k ≡ 0) × (partOf sheet k ≡ [])
+pub part-empty : (sheet : List ℕ) (k : ℕ) (why : Refusal) → HasAction sheet k (Answer.Refused why) → (startOf sheet k ≡ 0) × (partOf sheet k ≡ [])
 part-empty sheet k why r = (sym (start-nowhere r refl), sym (part-nowhere r refl))

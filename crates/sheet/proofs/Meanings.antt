@@ -8,14 +8,14 @@ use Prim.Native.Char.{code}
 use borrow.Author.Tests.{le-ltb, ltb-false, eqb-true, not-false, le-leb, leb-true}
 use lib.Dec.{eqb}
 use lib.ListN.{length, getD}
-use Rattle.table.specs.Reply.{Reply}
+use Rattle.table.specs.Reply.{Reply, answerSays}
 use Rattle.table.specs.Checks.{numbers, _when_, _below_}
 use Rattle.table.proofs.Checks.{neither, neither-of, equal}
 use Rattle.actions.specs.Layout.{headerLength, bytesBefore}
 use Rattle.sheet.specs.declared.Header.{Header}
-use Rattle.sheet.specs.declared.There.{There}
+use Rattle.table.specs.declared.Answer.{Answer}
 use Rattle.sheet.specs.Format.{headerBytes, countIn}
-use Rattle.sheet.specs.Entries.{headerSays, thereSays, wrongLength, headerChecks, thereChecks}
+use Rattle.sheet.specs.Entries.{headerSays, wrongLength, headerChecks, thereChecks}
 
 -- "Header: the bytes `FSH`, version 1 (16 bits), n (8), action count (16).", of 01's example: n = 3, eleven actions; and a count of two bytes
 pub header-spelled :
@@ -35,7 +35,7 @@ pub there-order : (sheet : List ℕ) (k : ℕ) → numbers (thereChecks sheet k)
 there-order sheet k = refl
 
 -- "otherwise it answers n and the count", of 01's example; an action that is there says nothing more
-pub said-when-accepted : (headerSays (Header.Sheet 3 11) ≡ Reply.accepted (3 ∷ 11 ∷ [])) × (thereSays There.Yes ≡ Reply.accepted [])
+pub said-when-accepted : (headerSays (Header.Sheet 3 11) ≡ Reply.accepted (3 ∷ 11 ∷ [])) × (answerSays Answer.Done ≡ Reply.accepted [])
 said-when-accepted = (refl, refl)
 
 -- 15: "action count above 4,096, or wrong sheet length", "Length is exactly 8 + 10 x count"

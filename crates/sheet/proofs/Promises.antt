@@ -11,7 +11,7 @@ use Rattle.table.specs.Reply.{Reply.accepted, refused}
 use Rattle.table.specs.Checks.{_when_, _below_, _notBelow_, Given, Given.here, Passed, Passed.none, Passed.passes}
 use Rattle.table.proofs.Checks.{given-refuses, passed-accepts, accepted-passed, refused-given, accepted-says, given-before, given-after, passed-both, passed-nth, neither}
 use Rattle.sheet.specs.declared.Header.{Header}
-use Rattle.sheet.specs.declared.There.{There}
+use Rattle.table.specs.declared.Answer.{Answer}
 use Rattle.actions.specs.Layout.{bytesBefore}
 use Rattle.sheet.specs.Format.{sizeIn, countIn}
 use Rattle.sheet.specs.Entries.{headerChecks, ReadsHeader, thereChecks, HasAction, startOf, partOf}
@@ -53,38 +53,38 @@ header-sizes {sheet} {h} {n} {count} r e =
     (omega arith, omega arith)
 
 module _ {sheet : List ℕ} {k : ℕ} where
-  pub there-refuses : {why : Refusal} → Given (numberOf why) (thereChecks sheet k) → HasAction sheet k (There.Refused why)
+  pub there-refuses : {why : Refusal} → Given (numberOf why) (thereChecks sheet k) → HasAction sheet k (Answer.Refused why)
   there-refuses {why} g = record { says = sym (given-refuses refused (accepted []) (numberOf why) (thereChecks sheet k) g) }
 
-  pub there-accepts : Passed (thereChecks sheet k) → HasAction sheet k There.Yes
+  pub there-accepts : Passed (thereChecks sheet k) → HasAction sheet k Answer.Done
   there-accepts p = record { says = sym (passed-accepts refused (accepted []) (thereChecks sheet k) p) }
 
   -- "a bad header gives the header's number"
-  pub there-by-header : {h : Header} {why : Refusal} → ReadsHeader sheet h → h ≡ Header.Refused why → HasAction sheet k (There.Refused why)
+  pub there-by-header : {h : Header} {why : Refusal} → ReadsHeader sheet h → h ≡ Header.Refused why → HasAction sheet k (Answer.Refused why)
   there-by-header {h} {why} r e =
       there-refuses (given-before (headerChecks sheet) ((13 when k notBelow countIn sheet) ∷ []) (header-given (rw e at r)))
 
   -- "k not below the count gives 13"
-  pub there-beyond : {h : Header} {n count : ℕ} → ReadsHeader sheet h → h ≡ Header.Sheet n count → count ≤ k → HasAction sheet k (There.Refused Refusal.Room)
+  pub there-beyond : {h : Header} {n count : ℕ} → ReadsHeader sheet h → h ≡ Header.Sheet n count → count ≤ k → HasAction sheet k (Answer.Refused Refusal.Room)
   there-beyond {h} {n} {count} r e b =
       let q : ReadsHeader sheet (Header.Sheet n count) = rw e at r in
       let f = header-fields q .1 in
       there-refuses (given-after (headerChecks sheet) ((13 when k notBelow countIn sheet) ∷ []) (header-passed q) (here (le-leb (countIn sheet) k (omega arith)) refl))
 
-  pub there-yes : {h : Header} {n count : ℕ} → ReadsHeader sheet h → h ≡ Header.Sheet n count → k < count → HasAction sheet k There.Yes
+  pub there-yes : {h : Header} {n count : ℕ} → ReadsHeader sheet h → h ≡ Header.Sheet n count → k < count → HasAction sheet k Answer.Done
   there-yes {h} {n} {count} r e b =
       let q : ReadsHeader sheet (Header.Sheet n count) = rw e at r in
       let f = header-fields q .1 in
       there-accepts (passed-both (headerChecks sheet) ((13 when k notBelow countIn sheet) ∷ []) (header-passed q) (passes (lt-leb (countIn sheet) k (omega arith)) none))
 
-  pub there-passed : HasAction sheet k There.Yes → Passed (thereChecks sheet k)
+  pub there-passed : HasAction sheet k Answer.Done → Passed (thereChecks sheet k)
   there-passed r = accepted-passed (thereChecks sheet k) [] [] (r .says)
 
-  pub there-given : {why : Refusal} → HasAction sheet k (There.Refused why) → Given (numberOf why) (thereChecks sheet k)
+  pub there-given : {why : Refusal} → HasAction sheet k (Answer.Refused why) → Given (numberOf why) (thereChecks sheet k)
   there-given {why} r = refused-given (thereChecks sheet k) [] (numberOf why) (r .says)
 
   -- an action that is there lies within the sheet
-  pub there-fits : {t : There} → HasAction sheet k t → t ≡ There.Yes → (k < 4096) × (bytesBefore k + 10 ≤ length sheet)
+  pub there-fits : {t : Answer} → HasAction sheet k t → t ≡ Answer.Done → (k < 4096) × (bytesBefore k + 10 ≤ length sheet)
   there-fits r e =
       let p = there-passed (rw e at r) in
       let early : k < countIn sheet = leb-false (countIn sheet) k (passed-nth (thereChecks sheet k) 3 p) in
@@ -93,18 +93,18 @@ module _ {sheet : List ℕ} {k : ℕ} where
       let same = len .1 in
       (omega arith, omega arith)
 
-  pub part-there : {t : There} → HasAction sheet k t → t ≡ There.Yes → take (bytesBefore k + 10 - bytesBefore k) (drop (bytesBefore k) sheet) ≡ partOf sheet k
+  pub part-there : {t : Answer} → HasAction sheet k t → t ≡ Answer.Done → take (bytesBefore k + 10 - bytesBefore k) (drop (bytesBefore k) sheet) ≡ partOf sheet k
   part-there r e =
       ap (λ (j : ℕ). take j (drop (bytesBefore k) sheet)) {x = bytesBefore k + 10 - bytesBefore k} {y = 10} (omega arith)
       ∙ sym (passed-accepts (λ j. []) (take 10 (drop (bytesBefore k) sheet)) (thereChecks sheet k) (there-passed (rw e at r)))
 
-  pub part-nowhere : {t : There} {why : Refusal} → HasAction sheet k t → t ≡ There.Refused why → [] ≡ partOf sheet k
+  pub part-nowhere : {t : Answer} {why : Refusal} → HasAction sheet k t → t ≡ Answer.Refused why → [] ≡ partOf sheet k
   part-nowhere {t} {why} r e =
       sym (given-refuses (λ j. []) (take 10 (drop (bytesBefore k) sheet)) (numberOf why) (thereChecks sheet k) (there-given {why = why} (rw e at r)))
 
   -- and where the part starts
-  pub start-nowhere : {t : There} {why : Refusal} → HasAction sheet k t → t ≡ There.Refused why → 0 ≡ startOf sheet k
+  pub start-nowhere : {t : Answer} {why : Refusal} → HasAction sheet k t → t ≡ Answer.Refused why → 0 ≡ startOf sheet k
   start-nowhere {t} {why} r e = sym (given-refuses (λ j. 0) (bytesBefore k) (numberOf why) (thereChecks sheet k) (there-given {why = why} (rw e at r)))
 
-  pub start-there : {t : There} → HasAction sheet k t → t ≡ There.Yes → bytesBefore k ≡ startOf sheet k
+  pub start-there : {t : Answer} → HasAction sheet k t → t ≡ Answer.Done → bytesBefore k ≡ startOf sheet k
   start-there r e = sym (passed-accepts (λ j. 0) (bytesBefore k) (thereChecks sheet k) (there-passed (rw e at r)))

@@ -8,16 +8,17 @@ use borrow.Author.Tests.{le-ltb, eqb-true, not-false, ltb-false}
 use lib.Dec.{eqb}
 use lib.ListN.{length, take, getD, drop, length-drop}
 use lib.Seq.{length-take-le, getD-take}
+use Rattle.table.proofs.Answers.{answer-tells}
 use Rattle.table.specs.Numbers.{numberOf}
 use Rattle.table.specs.Checks.{Passed.none, _below_}
 use Rattle.table.proofs.Numbers.{number-tells}
 use Rattle.table.proofs.Checks.{passed-accepts, neither, zero-one}
 use Rattle.sheet.specs.declared.Header.{Header}
-use Rattle.sheet.specs.declared.There.{There}
+use Rattle.table.specs.declared.Answer.{Answer}
 use Rattle.actions.specs.Format.{word}
 use Rattle.actions.specs.Layout.{bytesBefore}
 use Rattle.sheet.specs.Format.{headerBytes, sizeIn, countIn}
-use Rattle.sheet.specs.Entries.{headerSays, thereSays, wrongMark, ReadsHeader, HasAction, startOf, partOf, thereChecks}
+use Rattle.sheet.specs.Entries.{headerSays, wrongMark, ReadsHeader, HasAction, startOf, partOf, thereChecks}
 use Rattle.actions.proofs.Layouts.{word-read, high-written, low-written, spells}
 use Rattle.sheet.proofs.Promises.{there-fits, there-passed}
 
@@ -31,18 +32,12 @@ header-tells (Header.Sheet n count) (Header.Refused r) e = absurd (zero-one cc)
 header-tells (Header.Refused q) (Header.Sheet n count) e = absurd (zero-one cc)
 header-tells (Header.Refused q) (Header.Refused r) e = let z : numberOf q ≡ numberOf r = cc in ap Header.Refused (number-tells q r z)
 
-pub there-tells : (a b : There) → thereSays a ≡ thereSays b → a ≡ b
-there-tells There.Yes There.Yes e = refl
-there-tells There.Yes (There.Refused r) e = absurd (zero-one cc)
-there-tells (There.Refused q) There.Yes e = absurd (zero-one cc)
-there-tells (There.Refused q) (There.Refused r) e = let z : numberOf q ≡ numberOf r = cc in ap There.Refused (number-tells q r z)
-
 -- no second answer
 pub header-once : (sheet : List ℕ) (a b : Header) → ReadsHeader sheet a → ReadsHeader sheet b → a ≡ b
 header-once sheet a b p q = header-tells a b (p .says ∙ sym (q .says))
 
-pub there-once : (sheet : List ℕ) (k : ℕ) (a b : There) → HasAction sheet k a → HasAction sheet k b → a ≡ b
-there-once sheet k a b p q = there-tells a b (p .says ∙ sym (q .says))
+pub there-once : (sheet : List ℕ) (k : ℕ) (a b : Answer) → HasAction sheet k a → HasAction sheet k b → a ≡ b
+there-once sheet k a b p q = answer-tells a b (p .says ∙ sym (q .says))
 
 pub part-once : (sheet : List ℕ) (k : ℕ) (x y : List ℕ) (i j : ℕ) → (x ≡ partOf sheet k) × (i ≡ startOf sheet k) → (y ≡ partOf sheet k) × (j ≡ startOf sheet k) → (x ≡ y) × (i ≡ j)
 part-once sheet k x y i j p q = (p .0 ∙ sym (q .0), p .1 ∙ sym (q .1))
@@ -75,7 +70,7 @@ header-written sheet bytes right =
     (rw (none (at 0) 70 (f .1), none (at 1) 83 (s .1), none (at 2) 72 (h .1), three, four, high-written (at 6) (at 7) (bytes 7), low-written (at 6) (at 7) (bytes 7)))
 
 -- the part of an action that is there has ten bytes
-pub part-is-ten : (sheet : List ℕ) (k : ℕ) → HasAction sheet k There.Yes → length (partOf sheet k) ≡ 10
+pub part-is-ten : (sheet : List ℕ) (k : ℕ) → HasAction sheet k Answer.Done → length (partOf sheet k) ≡ 10
 part-is-ten sheet k r =
     let fits = there-fits r refl .1 in
     let long : 10 ≤ length (drop (bytesBefore k) sheet) = simp length-drop (omega arith) in

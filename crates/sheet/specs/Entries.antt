@@ -7,11 +7,11 @@ use Prim.Native.Nat.{ℕ}
 use lib.Dec.{eqb}
 use lib.ListN.{length, take, drop, getD}
 use Rattle.table.specs.Numbers.{numberOf}
-use Rattle.table.specs.Reply.{Reply, refused}
+use Rattle.table.specs.declared.Answer.{Answer}
+use Rattle.table.specs.Reply.{Reply, refused, answerSays}
 use Rattle.table.specs.Checks.{Check, checked, _when_, _below_, _notBelow_}
 use Rattle.fabric.specs.Labels.{outsideSizes}
 use Rattle.sheet.specs.declared.Header.{Header}
-use Rattle.sheet.specs.declared.There.{There}
 use Rattle.actions.specs.Layout.{actionLength, headerLength, bytesBefore}
 use Rattle.actions.specs.Format.{word}
 use Rattle.sheet.specs.Format.{sizeIn, countIn}
@@ -20,10 +20,6 @@ use Rattle.sheet.specs.Format.{sizeIn, countIn}
 abbrev pub headerSays : Header → Reply
 headerSays (Header.Sheet n count) = Reply.accepted (n ∷ count ∷ [])
 headerSays (Header.Refused why) = refused (numberOf why)
-
-abbrev pub thereSays : There → Reply
-thereSays There.Yes = Reply.accepted []
-thereSays (There.Refused why) = refused (numberOf why)
 
 -- 14: "sheet under 8 bytes, wrong mark or version": `fourteen-exactly` says that it is where no header stands at the front
 abbrev pub wrongMark : List ℕ → Bool
@@ -51,8 +47,8 @@ pub record ReadsHeader (sheet : List ℕ) (answer : Header) : Type 0 where
 abbrev pub thereChecks : List ℕ → ℕ → List Check
 thereChecks sheet k = headerChecks sheet ++ (13 when k notBelow countIn sheet) ∷ []
 
-pub record HasAction (sheet : List ℕ) (k : ℕ) (answer : There) : Type 0 where
-  pub says : thereSays answer ≡ checked (thereChecks sheet k) refused (Reply.accepted [])
+pub record HasAction (sheet : List ℕ) (k : ℕ) (answer : Answer) : Type 0 where
+  pub says : answerSays answer ≡ checked (thereChecks sheet k) refused (Reply.accepted [])
 
 -- "A second entry returns a part only: where the first accepts, action k is handed back as those ten bytes of the sheet
 -- themselves; otherwise the empty part at the sheet's front.": where in the sheet the part starts, and its bytes:

@@ -6,9 +6,3 @@ pub enum Header {
     Sheet { n: u8, count: u16 },
     Refused(Refusal),
 }
-
-// What the entry answers that says whether an action is there.
-pub enum There {
-    Yes,
-    Refused(Refusal),
-}

@@ -2,7 +2,7 @@
 use actions::ACTION_LENGTH;
 use actions::HEADER_LENGTH;
 use sheet::Header;
-use sheet::There;
+use table::Answer;
 use table::Refusal;
 ghost use mathlib.Core.Path.{_≡_};
 ghost use mathlib.Core.Bool.{false};
@@ -63,16 +63,16 @@ pub fn read_header(sheet: &[u8]) -> Header
 }
 
 // "a bad header gives the header's number, k not below the count gives 13"
-pub fn has_action(sheet: &[u8], k: usize) -> There
+pub fn has_action(sheet: &[u8], k: usize) -> Answer
     ensures { λ r. ⌜ HasAction (now (sheet .entry)) k r ⌝ }
 {
     match read_header(sheet) {
-        Header::Refused(why) => There::Refused(why),
+        Header::Refused(why) => Answer::Refused(why),
         Header::Sheet { n: _, count } => {
             if count as usize <= k {
-                return There::Refused(Refusal::Room);
+                return Answer::Refused(Refusal::Room);
             }
-            There::Yes
+            Answer::Done
         }
     }
 }
@@ -83,11 +83,11 @@ pub fn action_part<'a>(sheet: &'a [u8], k: usize) -> &'a [u8]
     ensures { λ r. ⌜ (r .ptr .0 ≡ sheet .entry .ptr .0) × (r .ptr .1 ≡ startOf (now (sheet .entry)) k + sheet .entry .ptr .1) ⌝ }
 {
     match has_action(sheet, k) {
-        There::Yes => {
+        Answer::Done => {
             let start = HEADER_LENGTH + ACTION_LENGTH * k;
             let end = start + ACTION_LENGTH;
             &sheet[start..end]
         }
-        There::Refused(_) => &sheet[0..0],
+        Answer::Refused(_) => &sheet[0..0],
     }
 }

@@ -3,6 +3,8 @@
 -- proofs/Meaning.antt.
 use mathlib.Core.List.{List, []}
 use Prim.Native.Nat.{ℕ, _≤_}
+use Rattle.table.specs.declared.Answer.{Answer}
+use Rattle.table.specs.Numbers.{numberOf}
 
 pub data Reply : Type 0 where
   accepted : List ℕ → Reply
@@ -16,3 +18,8 @@ refused k = Reply.refusedWith k []
 abbrev pub Numbered : Reply → Type 0
 Numbered (Reply.accepted values) = Unit
 Numbered (Reply.refusedWith k values) = 1 ≤ k
+
+-- what an answer without a value says: `answer-says`, `answer-numbered`, and no two say the same, `answer-tells`
+abbrev pub answerSays : Answer → Reply
+answerSays Answer.Done = Reply.accepted []
+answerSays (Answer.Refused why) = refused (numberOf why)

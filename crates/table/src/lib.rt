@@ -38,6 +38,12 @@ pub enum Refusal {
     Book,
 }
 
+// What an entry answers that hands no value back.
+pub enum Answer {
+    Done,
+    Refused(Refusal),
+}
+
 // The number that the table gives a refusal.
 pub fn number(refusal: Refusal) -> u8
     ensures { λ r. ⌜ r ≡ numberOf refusal ⌝ }

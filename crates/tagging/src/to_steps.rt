@@ -1,8 +1,8 @@
 // Document 01, 'tag to steps'.
 use scheme::outside_tags;
 use scheme::step_of;
+use table::Answer;
 use table::Refusal;
-use tags::Written;
 ghost use mathlib.Core.Path.{_≡_};
 ghost use mathlib.Core.List.{_++_};
 ghost use Prim.Native.Nat.{_≤_, _<_};
@@ -27,21 +27,21 @@ pub fn write_steps(n: u8, source: u16, tag: u32, memory: &mut [u8])
 }
 
 // Document 01, 'tag to steps': 1, 10, 12, 13.
-pub fn tag_to_steps(n: u8, source: u16, tag: u32, memory: &mut [u8]) -> Written
+pub fn tag_to_steps(n: u8, source: u16, tag: u32, memory: &mut [u8]) -> Answer
     ensures { λ r. ⌜ TagToSteps n source tag (now (memory .entry)) r (now (memory .exit)) ⌝ }
 {
     if fabric::outside_sizes(n) {
-        return Written::Refused(Refusal::Size);
+        return Answer::Refused(Refusal::Size);
     }
     if fabric::outside_labels(n, source) {
-        return Written::Refused(Refusal::Label);
+        return Answer::Refused(Refusal::Label);
     }
     if outside_tags(n, tag) {
-        return Written::Refused(Refusal::Tag);
+        return Answer::Refused(Refusal::Tag);
     }
     if memory.len() < n as usize {
-        return Written::Refused(Refusal::Room);
+        return Answer::Refused(Refusal::Room);
     }
     write_steps(n, source, tag, memory);
-    Written::Done
+    Answer::Done
 }

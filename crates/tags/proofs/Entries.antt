@@ -7,6 +7,7 @@ use native.Mathlib.Omega.{arith}
 use borrow.Author.Tests.{le-ltb, ltb-false, lt-leb, leb-false}
 use lib.ListN.{length, take, drop, getD, length-append}
 use lib.Seq.{length-take-le, take-at}
+use Rattle.table.proofs.Answers.{answer-tells}
 use Rattle.table.specs.Numbers.{numberOf}
 use Rattle.table.specs.Reply.{Reply, Reply.accepted, refused}
 use Rattle.table.specs.Checks.{checked, Passed, Passed.none, Passed.passes, _when_, _below_}
@@ -14,20 +15,14 @@ use Rattle.table.proofs.Numbers.{number-tells}
 use Rattle.table.proofs.Checks.{passed-accepts, accepted-passed, passed-nth, zero-one}
 use Rattle.fabric.specs.Labels.{size}
 use Rattle.fabric.specs.Walks.{Codes, Steps}
-use Rattle.tags.specs.declared.Written.{Written}
+use Rattle.table.specs.declared.Answer.{Answer}
 use Rattle.tags.specs.declared.Tag.{Tag}
 use Rattle.scheme.specs.Tags.{tags, destination, state, stepsOf, normalTag}
-use Rattle.tags.specs.Entries.{writtenSays, tagSays, someAboveTwo, tagToStepsChecks, TagToSteps, stepsToTagChecks, StepsToTag, normalFormChecks, NormalForm}
+use Rattle.tags.specs.Entries.{tagSays, someAboveTwo, tagToStepsChecks, TagToSteps, stepsToTagChecks, StepsToTag, normalFormChecks, NormalForm}
 use Rattle.scheme.proofs.Steps.{steps-of-tag}
 use Rattle.scheme.proofs.NormalTags.{normal-is-tag, steps-come-back, normal-keeps-destination, straight-cleared, turns-kept}
 
 -- an answer is known by what it says
-pub written-tells : (a b : Written) → writtenSays a ≡ writtenSays b → a ≡ b
-written-tells Written.Done Written.Done e = refl
-written-tells Written.Done (Written.Refused r) e = absurd (zero-one cc)
-written-tells (Written.Refused r) Written.Done e = absurd (zero-one cc)
-written-tells (Written.Refused q) (Written.Refused r) e = let z : numberOf q ≡ numberOf r = cc in ap Written.Refused (number-tells q r z)
-
 pub tag-tells : (a b : Tag) → tagSays a ≡ tagSays b → a ≡ b
 tag-tells (Tag.Normal t) (Tag.Normal u) e = let z : t ≡ u = cc in ap Tag.Normal z
 tag-tells (Tag.Normal t) (Tag.Refused r) e = absurd (zero-one cc)
@@ -35,9 +30,9 @@ tag-tells (Tag.Refused r) (Tag.Normal t) e = absurd (zero-one cc)
 tag-tells (Tag.Refused q) (Tag.Refused r) e = let z : numberOf q ≡ numberOf r = cc in ap Tag.Refused (number-tells q r z)
 
 -- no second answer
-pub tag-to-steps-once : (n s tag : ℕ) (lent : List ℕ) (a b : Written) (left₁ left₂ : List ℕ)
+pub tag-to-steps-once : (n s tag : ℕ) (lent : List ℕ) (a b : Answer) (left₁ left₂ : List ℕ)
     → TagToSteps n s tag lent a left₁ → TagToSteps n s tag lent b left₂ → (a ≡ b) × (left₁ ≡ left₂)
-tag-to-steps-once n s tag lent a b left₁ left₂ p q = (written-tells a b (p .says ∙ sym (q .says)), p .leaves ∙ sym (q .leaves))
+tag-to-steps-once n s tag lent a b left₁ left₂ p q = (answer-tells a b (p .says ∙ sym (q .says)), p .leaves ∙ sym (q .leaves))
 
 pub steps-to-tag-once : (n s : ℕ) (lent : List ℕ) (a b : Tag) → StepsToTag n s lent a → StepsToTag n s lent b → a ≡ b
 steps-to-tag-once n s lent a b p q = tag-tells a b (p .says ∙ sym (q .says))
@@ -72,7 +67,7 @@ pass-codes (c ∷ cs) h = go (2 below c) refl h (pass-codes cs)
     go false e f rest = (let l = ltb-false 2 c e in omega arith, rest f)
 
 -- what an accepted call shows: the checks are passed, and this is what it gave
-module _ (n s tag : ℕ) (lent left : List ℕ) (done : TagToSteps n s tag lent Written.Done left) where
+module _ (n s tag : ℕ) (lent left : List ℕ) (done : TagToSteps n s tag lent Answer.Done left) where
   tag-to-steps-passed : Passed (tagToStepsChecks n s tag lent)
   tag-to-steps-passed = accepted-passed (tagToStepsChecks n s tag lent) [] [] (done .says)
 
@@ -139,8 +134,8 @@ module _ (n s tag t : ℕ) (given : NormalForm n s tag (Tag.Normal t)) where
 
 -- "steps to tag to steps returns the steps": the tag of steps, written into any memory with room, gives those steps
 pub steps-tag-steps : (n s : ℕ) (lent : List ℕ) (tag : ℕ) → StepsToTag n s lent (Tag.Normal tag)
-    → (other left : List ℕ) (a : Written) → n ≤ length other → TagToSteps n s tag other a left
-    → (a ≡ Written.Done) × (left ≡ take n lent ++ drop n other)
+    → (other left : List ℕ) (a : Answer) → n ≤ length other → TagToSteps n s tag other a left
+    → (a ≡ Answer.Done) × (left ≡ take n lent ++ drop n other)
 steps-tag-steps n s lent tag given other left a room p =
     let e = gave-normal n s lent tag given in
     let ok : (k : ℕ) → getD (stepsToTagChecks n s lent) k (0 when false) .holds ≡ false = λ k. passed-nth (stepsToTagChecks n s lent) k (steps-to-tag-passed n s lent tag given) in
@@ -148,7 +143,7 @@ steps-tag-steps n s lent tag given other left a room p =
     let steps = read-are-steps n s lent tag given in
     let small : tag < tags n = subst (λ (x : ℕ). x < tags n) (sym e) (normal-is-tag n s label (take n lent) (steps .stages)) in
     let passed : Passed (tagToStepsChecks n s tag other) = passes (ok 0) (passes (ok 1) (passes (lt-leb (tags n) tag small) (passes (le-ltb (length other) n room) none))) in (
-      written-tells a Written.Done (p .says ∙ passed-accepts refused (accepted []) (tagToStepsChecks n s tag other) passed),
+      answer-tells a Answer.Done (p .says ∙ passed-accepts refused (accepted []) (tagToStepsChecks n s tag other) passed),
       p .leaves
           ∙ passed-accepts (λ k. other) (stepsOf n s tag ++ drop n other) (tagToStepsChecks n s tag other) passed
           ∙ ap (λ (cs : List ℕ). cs ++ drop n other) (ap (stepsOf n s) e ∙ steps-come-back n s label (take n lent) steps),
@@ -156,7 +151,7 @@ steps-tag-steps n s lent tag given other left a room p =
 
 -- tag to steps to tag: what comes back is the answer of the normal form, of which the theorems above say what it clears and
 -- what it keeps
-pub tag-steps-tag : (n s tag : ℕ) (lent left : List ℕ) → TagToSteps n s tag lent Written.Done left
+pub tag-steps-tag : (n s tag : ℕ) (lent left : List ℕ) → TagToSteps n s tag lent Answer.Done left
     → (a b : Tag) → StepsToTag n s left a → NormalForm n s tag b → a ≡ b
 tag-steps-tag n s tag lent left done a b p q =
     let cs : List ℕ = stepsOf n s tag in

@@ -11,7 +11,7 @@ use lib.ListN.{length, take, drop, getD, List·getD-append}
 use lib.Seq.{length-take-le, getD-append-add, getD-drop}
 use Rattle.table.specs.declared.Refusal.{Refusal}
 use Rattle.table.specs.Numbers.{numberOf}
-use Rattle.table.specs.Reply.{Reply.accepted, refused, Numbered}
+use Rattle.table.specs.Reply.{Reply.accepted, refused, Numbered, answerSays}
 use Rattle.table.specs.Checks.{Given, Passed, Passed.none, Passed.passes, numbers, _when_, _below_}
 use Rattle.table.proofs.Numbers.{above-zero}
 use Rattle.table.proofs.Checks.{given-refuses, passed-accepts, given-or-passed, accepted-passed, accepted-says, passed-nth, one-of, neither-of, zero-one}
@@ -22,16 +22,12 @@ use Rattle.fabric.proofs.Tests.{outside-exactly, some-stages, few-stages}
 use Rattle.scheme.specs.Tags.{tags, stepsOf, normalTag, IsNormal}
 use Rattle.scheme.proofs.Steps.{steps-of-tag}
 use Rattle.scheme.proofs.NormalTags.{normal-tag-is, normal-tag-only}
-use Rattle.tags.specs.declared.Written.{Written}
+use Rattle.table.specs.declared.Answer.{Answer}
 use Rattle.tags.specs.declared.Tag.{Tag}
-use Rattle.tags.specs.Entries.{writtenSays, tagSays, someAboveTwo, tagToStepsChecks, TagToSteps, stepsToTagChecks, StepsToTag, normalFormChecks, NormalForm}
+use Rattle.tags.specs.Entries.{tagSays, someAboveTwo, tagToStepsChecks, TagToSteps, stepsToTagChecks, StepsToTag, normalFormChecks, NormalForm}
 use Rattle.tags.proofs.Entries.{codes-pass, pass-codes, wrote}
 
 -- an answer that refuses has a number of the table
-pub written-numbered : (a : Written) → Numbered (writtenSays a)
-written-numbered Written.Done = tt
-written-numbered (Written.Refused r) = above-zero r
-
 pub tag-numbered : (a : Tag) → Numbered (tagSays a)
 tag-numbered (Tag.Normal t) = tt
 tag-numbered (Tag.Refused r) = above-zero r
@@ -76,12 +72,12 @@ module _ (n s tag : ℕ) (lent : List ℕ) where
       × (LineHolds (tagToStepsChecks n s tag lent) 3 ↔ (length lent < n))
   tag-to-steps-lines = (outside-exactly n, not-below-exactly s (size n), not-below-exactly tag (tags n), below-exactly (length lent) n)
 
-  module _ (left : List ℕ) (a : Written) (promised : TagToSteps n s tag lent a left) where
+  module _ (left : List ℕ) (a : Answer) (promised : TagToSteps n s tag lent a left) where
     -- it accepts exactly a size, a source and a tag of the fabric and memory with room for n bytes
-    pub written-exactly : (writtenSays a ≡ accepted []) ↔ ((1 ≤ n) × (n ≤ 12) × (s < size n) × (tag < tags n) × (n ≤ length lent))
+    pub written-exactly : (answerSays a ≡ accepted []) ↔ ((1 ≤ n) × (n ≤ 12) × (s < size n) × (tag < tags n) × (n ≤ length lent))
     written-exactly = (told, λ w. promised .says ∙ passed-accepts refused (accepted []) (tagToStepsChecks n s tag lent) (back w))
       where
-        told : writtenSays a ≡ accepted [] → (1 ≤ n) × (n ≤ 12) × (s < size n) × (tag < tags n) × (n ≤ length lent)
+        told : answerSays a ≡ accepted [] → (1 ≤ n) × (n ≤ 12) × (s < size n) × (tag < tags n) × (n ≤ length lent)
         told e =
             let p = accepted-passed (tagToStepsChecks n s tag lent) [] [] (sym e ∙ promised .says) in
             let ok : (k : ℕ) → getD (tagToStepsChecks n s tag lent) k (0 when false) .holds ≡ false = λ k. passed-nth (tagToStepsChecks n s tag lent) k p in
@@ -93,7 +89,7 @@ module _ (n s tag : ℕ) (lent : List ℕ) where
             (passes (lt-leb (size n) s (w .2)) (passes (lt-leb (tags n) tag (w .3)) (passes (le-ltb (length lent) n (w .4)) none)))
 
   -- "The lent memory is then untouched"
-  pub refused-untouched : (left : List ℕ) (r : Refusal) → TagToSteps n s tag lent (Written.Refused r) left → left ≡ lent
+  pub refused-untouched : (left : List ℕ) (r : Refusal) → TagToSteps n s tag lent (Answer.Refused r) left → left ≡ lent
   refused-untouched left r promised = go (given-or-passed (tagToStepsChecks n s tag lent))
     where
       go : ((k : ℕ) × Given k (tagToStepsChecks n s tag lent)) ⊎ Passed (tagToStepsChecks n s tag lent) → left ≡ lent
@@ -103,7 +99,7 @@ module _ (n s tag : ℕ) (lent : List ℕ) where
           absurd (zero-one cc)
 
   -- "It writes n bytes at the front", the codes of the steps, and every other byte stays
-  module _ (left : List ℕ) (done : TagToSteps n s tag lent Written.Done left) where
+  module _ (left : List ℕ) (done : TagToSteps n s tag lent Answer.Done left) where
     pub front-written : (k : ℕ) → k < n → getD left k 0 ≡ getD (stepsOf n s tag) k 0
     front-written k h =
         let l = steps-of-tag n s tag .stages in

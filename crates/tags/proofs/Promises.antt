@@ -8,13 +8,13 @@ use Rattle.table.specs.Numbers.{numberOf}
 use Rattle.table.specs.Reply.{Reply.accepted, refused}
 use Rattle.table.specs.Checks.{Given, Passed}
 use Rattle.table.proofs.Checks.{given-refuses, passed-accepts}
-use Rattle.tags.specs.declared.Written.{Written}
+use Rattle.table.specs.declared.Answer.{Answer}
 use Rattle.tags.specs.declared.Tag.{Tag}
 use Rattle.scheme.specs.Tags.{stepsOf, normalTag}
 use Rattle.tags.specs.Entries.{tagToStepsChecks, TagToSteps, stepsToTagChecks, StepsToTag, normalFormChecks, NormalForm}
 
 pub to-steps-refuses : {n s tag : ℕ} {m : List ℕ} {r : Refusal}
-    → Given (numberOf r) (tagToStepsChecks n s tag m) → TagToSteps n s tag m (Written.Refused r) m
+    → Given (numberOf r) (tagToStepsChecks n s tag m) → TagToSteps n s tag m (Answer.Refused r) m
 to-steps-refuses {n} {s} {tag} {m} {r} g =
     record {
       says = sym (given-refuses refused (accepted []) (numberOf r) (tagToStepsChecks n s tag m) g);
@@ -22,7 +22,7 @@ to-steps-refuses {n} {s} {tag} {m} {r} g =
     }
 
 pub to-steps-accepts : {n s tag : ℕ} {m left : List ℕ}
-    → Passed (tagToStepsChecks n s tag m) → left ≡ stepsOf n s tag ++ drop n m → TagToSteps n s tag m Written.Done left
+    → Passed (tagToStepsChecks n s tag m) → left ≡ stepsOf n s tag ++ drop n m → TagToSteps n s tag m Answer.Done left
 to-steps-accepts {n} {s} {tag} {m} p e =
     record {
       says = sym (passed-accepts refused (accepted []) (tagToStepsChecks n s tag m) p);

@@ -7,19 +7,15 @@ use mathlib.Core.List.{List, [], _∷_, _++_}
 use Prim.Native.Nat.{ℕ}
 use lib.ListN.{length, take, drop}
 use Rattle.table.specs.Numbers.{numberOf}
-use Rattle.table.specs.Reply.{Reply, refused}
+use Rattle.table.specs.declared.Answer.{Answer}
+use Rattle.table.specs.Reply.{Reply, refused, answerSays}
 use Rattle.table.specs.Checks.{Check, checked, _when_, _below_, _notBelow_}
 use Rattle.fabric.specs.Labels.{size, outsideSizes}
 use Rattle.scheme.specs.Tags.{tags, stepsOf, normalTag}
-use Rattle.tags.specs.declared.Written.{Written}
 use Rattle.tags.specs.declared.Tag.{Tag}
 
--- the number and values of each answer: `written-numbered` and `tag-numbered` say that no refusal has number 0; `written-exactly`,
+-- the number and values of a tag that is answered: `tag-numbered` says that no refusal has number 0; `written-exactly`,
 -- `normal-tag-exactly` and `normal-form-exactly` say when an entry accepts, and with what
-abbrev pub writtenSays : Written → Reply
-writtenSays Written.Done = Reply.accepted []
-writtenSays (Written.Refused r) = refused (numberOf r)
-
 abbrev pub tagSays : Tag → Reply
 tagSays (Tag.Normal t) = Reply.accepted (t ∷ [])
 tagSays (Tag.Refused r) = refused (numberOf r)
@@ -35,8 +31,8 @@ abbrev pub tagToStepsChecks : ℕ → ℕ → ℕ → List ℕ → List Check
 tagToStepsChecks n s tag m =
     (1 when outsideSizes n) ∷ (10 when s notBelow size n) ∷ (12 when tag notBelow tags n) ∷ (13 when length m below n) ∷ []
 
-pub record TagToSteps (n s tag : ℕ) (lent : List ℕ) (answer : Written) (left : List ℕ) : Type 0 where
-  pub says : writtenSays answer ≡ checked (tagToStepsChecks n s tag lent) refused (Reply.accepted [])
+pub record TagToSteps (n s tag : ℕ) (lent : List ℕ) (answer : Answer) (left : List ℕ) : Type 0 where
+  pub says : answerSays answer ≡ checked (tagToStepsChecks n s tag lent) refused (Reply.accepted [])
   pub leaves : left ≡ checked (tagToStepsChecks n s tag lent) (λ k. lent) (stepsOf n s tag ++ drop n lent)
 
 -- "steps to tag (n, source, memory): 1, 10, 13, 12. Bytes after the first n are not read." `steps-to-tag-order` and

@@ -3,8 +3,8 @@ use show::bytes;
 use show::number;
 use show::refused;
 use show::word;
+use table::Answer;
 use tags::Tag;
-use tags::Written;
 ghost use Prim.Native.Nat.{_≤_};
 
 fn main() {
@@ -107,8 +107,8 @@ fn steps_into(n: u8, source: u16, tag: u32, memory: &mut [u8]) {
     number(source as u64);
     number(tag as u64);
     match answer {
-        Written::Done => word(b" DONE"),
-        Written::Refused(r) => refused(r),
+        Answer::Done => word(b" DONE"),
+        Answer::Refused(r) => refused(r),
     }
     bytes(memory);
     word(b"\n");
