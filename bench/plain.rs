@@ -1,5 +1,6 @@
 //! A router in plain Rust, written for speed from document 01 alone and sharing nothing with the proved one. As the proved
-//! router does, it answers each question from the list of notices and keeps nothing between two questions.
+//! router does, it answers each question from the list of notices and keeps nothing between two questions. `route` tests no book, `judged`
+//! first tests the one that it is given, as 01's number 16 asks.
 //!
 //! The switches of column i that can lie on a path from s to d agree with d in their low i bits, and lie less than 2^i away
 //! from s on either side. There are two: the bit i of one is right, and it goes straight; the other one forks. So a notice is
@@ -134,4 +135,53 @@ pub fn route(n: u32, notices: &[Target], source: u32, destination: u32) -> Answe
     }
     let states = straight.min(fork).reverse_bits() >> (32 - n);
     Answer::Tag(destination | states << n)
+}
+
+/// The proved book's contents: the notices that stand come first, by rising number, and every other place holds nothing.
+pub struct Book {
+    pub n: u32,
+    pub numbers: Vec<u16>,
+    pub targets: Vec<Target>,
+    pub count: usize,
+}
+
+pub const PLACES: usize = 48;
+pub const NOTHING: Target = Target::Links { stage: 0, switch: 0, set: 0 };
+
+/// Whether filing refuses the target for itself.
+#[inline(always)]
+fn unfit(n: u32, target: Target) -> bool {
+    let size = 1u32 << n;
+    match target {
+        Target::Links { stage, switch, set } => (stage as u32 >= n) | (switch as u32 >= size) | (set.wrapping_sub(1) > 6),
+        Target::Switch { column, switch } => (column as u32 > n) | (switch as u32 >= size),
+        Target::Pattern { stage, value, mask, set } => {
+            (stage as u32 >= n) | (set.wrapping_sub(1) > 6) | (mask as u32 >= size) | (value & mask != value) | (mask & mask.wrapping_sub(1) == 0)
+        }
+    }
+}
+
+/// 16: whether no accepted opening, filings and withdrawings make the book. A sound book is the common case, so there is no early end.
+fn unsound(book: &Book) -> bool {
+    if !(1..=12).contains(&book.n) || book.count > PLACES {
+        return true;
+    }
+    let mut last = 0;
+    let mut bad = false;
+    for (&number, &target) in book.numbers[..book.count].iter().zip(&book.targets[..book.count]) {
+        bad |= (number <= last) | unfit(book.n, target);
+        last = number;
+    }
+    for (&number, target) in book.numbers[book.count..].iter().zip(&book.targets[book.count..]) {
+        bad |= (number != 0) | !matches!(target, Target::Links { stage: 0, switch: 0, set: 0 });
+    }
+    bad
+}
+
+/// None where the book is refused.
+pub fn judged(book: &Book, source: u32, destination: u32) -> Option<Answer> {
+    if unsound(book) {
+        return None;
+    }
+    Some(route(book.n, &book.targets[..book.count], source, destination))
 }
