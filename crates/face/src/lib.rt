@@ -3,7 +3,7 @@
 use actions::ACTION_LENGTH;
 use actions::HEADER_LENGTH;
 use book::Book;
-use handed::after_all;
+use handed::book_of;
 use notices::Notice;
 use notices::Target;
 use packer::BYTE;
@@ -16,7 +16,6 @@ use packer::listed;
 use packer::ran;
 use packer::refused;
 use packer::tag_told;
-use sheet::Header;
 use table::Answer;
 ghost use Rattle.table.specs.Reply.{answerSays};
 ghost use mathlib.Core.Path.{_≡_};
@@ -24,7 +23,7 @@ ghost use Prim.Native.Nat.{_+_, _*_};
 ghost use lib.ListN.{length};
 ghost use Rattle.tags.specs.Entries.{tagSays, TagToSteps, StepsToTag, NormalForm};
 ghost use Rattle.notices.specs.declared.Target.the-variants.{Links, Switch, Pattern};
-ghost use Rattle.book.specs.Entries.{linkSays, Opens, Files, Withdraws, Tests};
+ghost use Rattle.book.specs.Entries.{linkSays, listingSays, Opens, Files, Withdraws, Tests, Lists};
 ghost use Rattle.walks.specs.Entries.{walkSays, Walks};
 ghost use Rattle.routes.specs.Routed.{routeSays, Routes};
 ghost use Rattle.actions.specs.Entries.{ReadsAction};
@@ -32,7 +31,7 @@ ghost use Rattle.sheet.specs.Entries.{headerSays, ReadsHeader, HasAction, start
 ghost use Rattle.printed.specs.Runs.{ranSays, Runs};
 ghost use Rattle.packing.specs.Packed.{byte, Tells};
 ghost use Rattle.fields.specs.Fields.{kindSays, ReadsFields};
-ghost use Rattle.handed.specs.Books.{keptSays, OverSheet, ListsOver};
+ghost use Rattle.handed.specs.Books.{keptSays, OverSheet, OverLent};
 
 // "tag to steps (n, source, tag, memory)"
 #[no_mangle]
@@ -71,13 +70,15 @@ pub extern "C" fn tabashfar_open(n: u8) -> u64
 fn filed(sheet: &[u8], notice: Notice) -> u64
     ensures { λ r. ⌜ OverSheet (now (sheet .entry)) (λ b. Tells (Files b notice) keptSays) r ⌝ }
 {
-    match sheet_reader::read_header(sheet) {
-        Header::Sheet { n, count } => {
-            let kept = after_all(sheet, n, count).filed(notice);
+    let handed = book_of(sheet);
+    let makes = handed.answer;
+    match makes {
+        Answer::Done => {
+            let kept = handed.book.filed(notice);
             let answer = kept.answer;
             answered(answer)
         }
-        Header::Refused(why) => refused(why),
+        Answer::Refused(why) => refused(why),
     }
 }
 
@@ -144,13 +145,15 @@ pub extern "C" fn tabashfar_file_pattern(
 pub extern "C" fn tabashfar_withdraw(sheet: &[u8], number: u16) -> u64
     ensures { λ r. ⌜ OverSheet (now (sheet .entry)) (λ b. Tells (Withdraws b number) keptSays) r ⌝ }
 {
-    match sheet_reader::read_header(sheet) {
-        Header::Sheet { n, count } => {
-            let kept = after_all(sheet, n, count).withdrawn(number);
+    let handed = book_of(sheet);
+    let makes = handed.answer;
+    match makes {
+        Answer::Done => {
+            let kept = handed.book.withdrawn(number);
             let answer = kept.answer;
             answered(answer)
         }
-        Header::Refused(why) => refused(why),
+        Answer::Refused(why) => refused(why),
     }
 }
 
@@ -159,14 +162,11 @@ pub extern "C" fn tabashfar_withdraw(sheet: &[u8], number: u16) -> u64
 pub extern "C" fn tabashfar_link(sheet: &[u8], stage: u8, switch: u16, code: u8) -> u64
     ensures { λ r. ⌜ OverSheet (now (sheet .entry)) (λ b. Tells (Tests b stage switch code) linkSays) r ⌝ }
 {
-    match sheet_reader::read_header(sheet) {
-        Header::Sheet { n, count } => link_told(asked::tested(
-            after_all(sheet, n, count),
-            stage,
-            switch,
-            code,
-        )),
-        Header::Refused(why) => refused(why),
+    let handed = book_of(sheet);
+    let makes = handed.answer;
+    match makes {
+        Answer::Done => link_told(asked::tested(handed.book, stage, switch, code)),
+        Answer::Refused(why) => refused(why),
     }
 }
 
@@ -175,13 +175,11 @@ pub extern "C" fn tabashfar_link(sheet: &[u8], stage: u8, switch: u16, code: u8)
 pub extern "C" fn tabashfar_route(sheet: &[u8], source: u16, destination: u16) -> u64
     ensures { λ r. ⌜ OverSheet (now (sheet .entry)) (λ b. Tells (Routes b source destination) routeSays) r ⌝ }
 {
-    match sheet_reader::read_header(sheet) {
-        Header::Sheet { n, count } => found(router::route(
-            after_all(sheet, n, count),
-            source,
-            destination,
-        )),
-        Header::Refused(why) => refused(why),
+    let handed = book_of(sheet);
+    let makes = handed.answer;
+    match makes {
+        Answer::Done => found(router::routed(handed.book, source, destination)),
+        Answer::Refused(why) => refused(why),
     }
 }
 
@@ -190,24 +188,24 @@ pub extern "C" fn tabashfar_route(sheet: &[u8], source: u16, destination: u16) -
 pub extern "C" fn tabashfar_walk(sheet: &[u8], source: u16, tag: u32) -> u64
     ensures { λ r. ⌜ OverSheet (now (sheet .entry)) (λ b. Tells (Walks b source tag) walkSays) r ⌝ }
 {
-    match sheet_reader::read_header(sheet) {
-        Header::Sheet { n, count } => ended(walker::walked(
-            after_all(sheet, n, count),
-            source,
-            tag,
-        )),
-        Header::Refused(why) => refused(why),
+    let handed = book_of(sheet);
+    let makes = handed.answer;
+    match makes {
+        Answer::Done => ended(walker::walked(handed.book, source, tag)),
+        Answer::Refused(why) => refused(why),
     }
 }
 
 // "listing"
 #[no_mangle]
 pub extern "C" fn tabashfar_listing(sheet: &[u8], memory: &mut [u8]) -> u64
-    ensures { λ r. ⌜ ListsOver (now (sheet .entry)) (now (memory .entry)) (now (memory .exit)) r ⌝ }
+    ensures { λ r. ⌜ OverLent (now (sheet .entry)) (now (memory .entry)) (now (memory .exit)) (λ b. Tells (Lists b (now (memory .entry)) (now (memory .exit))) listingSays) r ⌝ }
 {
-    match sheet_reader::read_header(sheet) {
-        Header::Sheet { n, count } => listed(asked::listed(after_all(sheet, n, count), memory)),
-        Header::Refused(why) => refused(why),
+    let handed = book_of(sheet);
+    let makes = handed.answer;
+    match makes {
+        Answer::Done => listed(asked::listed(handed.book, memory)),
+        Answer::Refused(why) => refused(why),
     }
 }
 

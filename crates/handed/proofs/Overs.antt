@@ -1,34 +1,44 @@
--- A function over a book answers by the header's refusal, or over the book after the sheet's actions.
-use mathlib.Core.Path.{_≡_, refl}
+-- A function over a book answers by the header's refusal, or over the book that the sheet makes.
+use mathlib.Core.Path.{_≡_, refl, _∙_}
 use mathlib.Core.List.{List}
 use Prim.Native.Nat.{ℕ}
 use Rattle.table.specs.declared.Refusal.{Refusal}
 use Rattle.table.specs.Numbers.{numberOf}
-use Rattle.table.specs.Reply.{Reply}
 use Rattle.book.specs.declared.Book.{Book}
-use Rattle.book.specs.Entries.{listingSays, Lists}
+use Rattle.table.specs.declared.Answer.{Answer}
+use Rattle.book.specs.declared.Kept.{Kept}
+use Rattle.book.specs.Standing.{Sound}
+use Rattle.book.specs.Entries.{Opens}
 use Rattle.sheet.specs.declared.Header.{Header}
 use Rattle.sheet.specs.Entries.{ReadsHeader}
-use Rattle.packing.specs.Packed.{packed, Tells}
 use Rattle.changes.specs.After.{After}
-use Rattle.handed.specs.Books.{OverSheet, ListsOver}
+use Rattle.handed.specs.Books.{HandsOver, HandsOver.makes, HandsOver.refuses, OverLent}
 
--- the number of an answer that the entry promises
-pub tells : {A : Type 0} (promise : A → Type 0) (says : A → Reply) (a : A) {r : ℕ} → promise a → r ≡ packed (says a) → Tells promise says r
-tells promise says a p e = (a, p, e)
+module _ {sheet : List ℕ} {b : Book} where
+  -- the header's answer, and what is made by it
+  pub hands-book : {h : Header} {n count : ℕ} → ReadsHeader sheet h → h ≡ Header.Sheet n count → After sheet n count b × Sound b → HandsOver sheet b Answer.Done
+  hands-book reads e m = makes (rw e at reads) (m .0) (m .1)
 
-pub over-refused : {sheet : List ℕ} {answers : Book → ℕ → Type 0} {r : ℕ} {h : Header} {why : Refusal}
-    → ReadsHeader sheet h → h ≡ Header.Refused why → r ≡ numberOf why → OverSheet sheet answers r
-over-refused {why = why} reads e n = record { header = Header.Refused why; reads = rw e at reads; over = n }
+  pub hands-none : {h : Header} {why : Refusal} {r : Kept} → ReadsHeader sheet h → h ≡ Header.Refused why → Opens 0 r → b ≡ r .book → HandsOver sheet b (Answer.Refused why)
+  hands-none reads e o same = refuses (rw e at reads) (same ∙ o .leaves)
 
-pub over-whole : {sheet : List ℕ} {answers : Book → ℕ → Type 0} {r n count : ℕ} {h : Header} {b : Book}
-    → ReadsHeader sheet h → h ≡ Header.Sheet n count → After sheet n count b → answers b r → OverSheet sheet answers r
-over-whole {n = n} {count = count} {b = b} reads e after a = record { header = Header.Sheet n count; reads = rw e at reads; over = (b, after, a) }
+  module _ {a : Answer} (hands : HandsOver sheet b a) where
+    -- 16 is not to be tested over it
+    pub handed-sound : a ≡ Answer.Done → Sound b
+    handed-sound e = go (rw e at hands)
+      where
+        go : HandsOver sheet b Answer.Done → Sound b
+        go (makes reads after sound) = sound
 
-pub lists-refused : {sheet before : List ℕ} {r : ℕ} {h : Header} {why : Refusal}
-    → ReadsHeader sheet h → h ≡ Header.Refused why → r ≡ numberOf why → ListsOver sheet before before r
-lists-refused {why = why} reads e n = record { header = Header.Refused why; reads = rw e at reads; over = (n, refl) }
+    module _ {before : List ℕ} {answers : Book → ℕ → Type 0} {r : ℕ} where
+      pub over-handed : {after : List ℕ} → a ≡ Answer.Done → answers b r → OverLent sheet before after answers r
+      over-handed {after} e x = go (rw e at hands)
+        where
+          go : HandsOver sheet b Answer.Done → OverLent sheet before after answers r
+          go (makes {n = n} {count = count} reads by sound) = record { header = Header.Sheet n count; reads = reads; over = (b, by, x) }
 
-pub lists-whole : {sheet before after : List ℕ} {r n count : ℕ} {h : Header} {b : Book}
-    → ReadsHeader sheet h → h ≡ Header.Sheet n count → After sheet n count b → Tells (Lists b before after) listingSays r → ListsOver sheet before after r
-lists-whole {n = n} {count = count} {b = b} reads e made a = record { header = Header.Sheet n count; reads = rw e at reads; over = (b, made, a) }
+      pub over-refused : {why : Refusal} → a ≡ Answer.Refused why → r ≡ numberOf why → OverLent sheet before before answers r
+      over-refused {why} e n = go (rw e at hands)
+        where
+          go : HandsOver sheet b (Answer.Refused why) → OverLent sheet before before answers r
+          go (refuses reads size) = record { header = Header.Refused why; reads = reads; over = (n, refl) }

@@ -1,14 +1,41 @@
 // The book that a host hands over as a sheet: the one after all its actions.
 use actions::Action;
 use book::Book;
+use book::Kept;
+use sheet::Header;
+use table::Answer;
 ghost use mathlib.Core.Path.{_≡_};
 ghost use Prim.Native.Nat.{_≤_};
 ghost use Rattle.book.specs.Standing.{Sound};
 ghost use Rattle.changes.specs.Runs.{run};
 ghost use Rattle.changes.specs.After.{changesOf, After};
+ghost use Rattle.handed.specs.Books.{HandsOver};
+
+// The book that a sheet makes. A header that is refused makes none: its refusal comes with a book of size 0, as a refused opening's does.
+pub fn book_of(sheet: &[u8]) -> Kept
+    ensures { λ r. ⌜ HandsOver (now (sheet .entry)) (r .book) (r .answer) ⌝ }
+{
+    match sheet_reader::read_header(sheet) {
+        Header::Sheet { n, count } => {
+            let book = after_all(sheet, n, count);
+            Kept {
+                book,
+                answer: Answer::Done,
+            }
+        }
+        Header::Refused(why) => {
+            let none = Book::open(0);
+            let book = none.book;
+            Kept {
+                book,
+                answer: Answer::Refused(why),
+            }
+        }
+    }
+}
 
 // The book after the first `count` actions of a sheet, its routes passed over. It is sound from its opening on, so 16 is not tested.
-pub fn after_all(sheet: &[u8], n: u8, count: u16) -> Book
+fn after_all(sheet: &[u8], n: u8, count: u16) -> Book
     requires { ⌜ (1 ≤ n) × (n ≤ 12) ⌝ }
     ensures { λ r. ⌜ (After (now (sheet .entry)) n count r) × (Sound r) ⌝ }
 {

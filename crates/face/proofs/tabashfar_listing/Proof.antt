@@ -1,28 +1,24 @@
--- The header's refusal, or the entry over the book after the sheet's actions.
+-- The header's refusal, or the entry over the book that the sheet makes.
 use Rattle.face.proofs.Few.{few-listed}
-use Rattle.handed.proofs.Overs.{lists-whole, lists-refused}
+use Rattle.handed.proofs.Overs.{handed-sound, over-handed, over-refused}
 use borrow.Author.Needs.{needs}
-use Rattle.sheet.proofs.Promises.{header-sizes}
 use Rattle.face.proofs.tabashfar_listing.Statement.{statement}
 use Rattle.face.proofs.tabashfar_listing.Tie as tie
 
-read-header-requires : tie.Need-read-header-requires
-read-header-requires c κs = search needs
+book-of-requires : tie.Need-book-of-requires
+book-of-requires c κs = search needs
 
-enum-known-n : tie.Need-enum-known-n
-enum-known-n c = search needs
-
-after-all-requires : tie.Need-after-all-requires
-after-all-requires c κs = header-sizes (c .before .before .before .read-header .ensures) (c .before .n .given .1)
+enum-told : tie.Need-enum-told
+enum-told c = search needs
 
 listed-requires : tie.Need-listed-requires
-listed-requires c κs = search needs
+listed-requires c κs = handed-sound (c .before .before .before .book-of .ensures) (c .before .enum-told .given .1)
 
 listed-requires-2 : tie.Need-listed-requires-2
 listed-requires-2 c κs = λ count e. few-listed (c .before .before .listed .ensures) e
 
-enum-known-why : tie.Need-enum-known-why
-enum-known-why c = search needs
+enum-known-makes : tie.Need-enum-known-makes
+enum-known-makes c = search needs
 
 refused-requires : tie.Need-refused-requires
 refused-requires c κs = search needs
@@ -32,25 +28,22 @@ same-length c = search needs
 
 returns : tie.Need-returns
 returns c =
+    let told = c .before .before .before .before .before in
     let l = c .before .before .before .listed in
-    let n = c .before .before .before .before .before .before .before .n in
-    let r = c .before .before .before .before .before .before .before .before .before .read-header in
-    let a = c .before .before .before .before .before .after-all in
-    lists-whole (r .ensures) (n .given .1) (a .ensures .0) (l .result, l .ensures, c .listed2 .ensures)
+    over-handed (told .before .before .book-of .ensures) (told .enum-told .given .1) (l .result, l .ensures, c .listed2 .ensures)
 
 returns-2 : tie.Need-returns-2
-returns-2 c = lists-refused (c .before .before .before .before .read-header .ensures) (c .before .before .why .given .1) (c .refused .ensures)
+returns-2 c = over-refused (c .before .before .before .before .book-of .ensures) (c .before .before .makes .given .1) (c .refused .ensures)
 
 pub tabashfar-listing-spec : {M : Type 1} → statement M
 tabashfar-listing-spec =
     tie.close
     (tie.spec
-    read-header-requires
-    enum-known-n
-    after-all-requires
+    book-of-requires
+    enum-told
     listed-requires
     listed-requires-2
-    enum-known-why
+    enum-known-makes
     refused-requires
     same-length
     returns
