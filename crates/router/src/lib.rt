@@ -1,14 +1,10 @@
 // Document 01, 'route': the first clear path over the links that a book stops, or the stage that no clear walk can cross.
 use book::Book;
 use crossing::cross;
-use frontier::Stops;
 use named::with_notice;
 use routes::Found;
 use table::Refusal;
-ghost use Prim.Native.Nat.{_<_};
-ghost use Rattle.fabric.specs.Labels.{size};
-ghost use Rattle.frontier.specs.Stops.{StopsUnder};
-ghost use Rattle.book.specs.Standing.{Sound, stopsOf};
+ghost use Rattle.book.specs.Standing.{Sound};
 ghost use Rattle.routes.specs.Routed.{Routes};
 
 mod named; // named.rt: the links on ways that a notice names
@@ -23,7 +19,7 @@ pub fn route(book: Book, source: u16, destination: u16) -> Found
     routed(book, source, destination)
 }
 
-// A route over a book that 16 does not refuse: 10, and then the first clear path.
+// A route over a book that 16 does not refuse: 10, and then the first clear path over the links that the standing notices stop.
 pub fn routed(book: Book, source: u16, destination: u16) -> Found
     requires { ⌜ Sound book ⌝ }
     ensures { λ r. ⌜ Routes book source destination r ⌝ }
@@ -34,19 +30,6 @@ pub fn routed(book: Book, source: u16, destination: u16) -> Found
     if fabric::outside_labels(book.n, destination) {
         return Found::Refused(Refusal::Label);
     }
-    cross(
-        book.n,
-        source,
-        destination,
-        stops(book, source, destination),
-    )
-}
-
-// Which links on ways from a source to a destination the standing notices stop.
-fn stops(book: Book, source: u16, destination: u16) -> Stops
-    requires { ⌜ (Sound book) × (source < size (book .n)) ⌝ }
-    ensures { λ r. ⌜ StopsUnder (book .n) (stopsOf book) source destination r ⌝ }
-{
     let n = book.n;
     let columns = frontier::columns_between(n, source, destination);
     let straights = columns.straight;
@@ -58,5 +41,5 @@ fn stops(book: Book, source: u16, destination: u16) -> Stops
         stops = with_notice(n, &straights, &forks, x, stops);
         k += 1;
     }
-    stops
+    cross(n, source, destination, stops)
 }

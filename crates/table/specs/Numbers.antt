@@ -1,5 +1,5 @@
 -- Document 01, 'Numbers handed back': the number of each refusal. 11 comes with a stage and 17 ends a walk: `walkSays` of walks and
--- `routeSays` of crossing give them. `table-in-order` says that these are 01's numbers from top to bottom, `number-tells` that no two
+-- `routeSays` of routes give them. `table-in-order` says that these are 01's numbers from top to bottom, `number-tells` that no two
 -- refusals share one, `above-zero` that none is 0 (proofs/Numbers.antt).
 use Prim.Native.Nat.{ℕ}
 use Rattle.table.specs.declared.Refusal.{Refusal}
