@@ -71,11 +71,11 @@ pub fn number(refusal: Refusal) -> u8
 pub fn both(a: bool, b: bool) -> bool
     ensures { λ r. ⌜ r ≡ (a && b) ⌝ }
 {
-    if a { b } else { false }
+    a && b
 }
 
 pub fn either(a: bool, b: bool) -> bool
     ensures { λ r. ⌜ r ≡ (a || b) ⌝ }
 {
-    if a { true } else { b }
+    a || b
 }
