@@ -1,7 +1,7 @@
 /* Tabashfar for C: the entries of document 01 over numbers and byte slices.
  *
  * A slice is two arguments, where its bytes start and how many there are. The bytes of a `const` slice are only read. Of lent memory
- * (`memory`) exactly what is said at the function is written, and nothing where the call is refused. A slice may be empty; its pointer
+ * (`memory`, `answers`) exactly what is said at the function is written, and nothing where the call is refused. A slice may be empty; its pointer
  * must not be null even then, and is aligned as C asks of its type. Two slices of one call do not overlap. Nothing else is asked: every
  * function is defined for every value of its numbers and for all bytes of every length, keeps no state, allocates nothing, and returns.
  *
@@ -69,6 +69,13 @@ uint64_t tabashfar_listing(const uint8_t *sheet, size_t sheet_len, uint8_t *memo
 
 /* Refuses 10, and 11 with the stage that no clear walk can cross. Value: the tag of the first clear path. */
 uint64_t tabashfar_route(const uint8_t *sheet, size_t sheet_len, uint16_t source, uint16_t destination);
+
+/* Routes for many pairs over one book, which is made once. A pair is two numbers of `pairs`, a source and its destination. Refuses 13 where
+ * pairs_len is odd or answers_len less than half of it. Otherwise 0, with one number a pair at the front of the answers, in the order of the
+ * pairs: what tabashfar_route answers for it, a refusal too. The rest of the answers stays. pairs_len and answers_len count numbers and not
+ * bytes. */
+uint64_t tabashfar_routes(const uint8_t *sheet, size_t sheet_len, const uint16_t *pairs, size_t pairs_len, uint64_t *answers,
+                          size_t answers_len);
 
 /* Refuses 10, 12, and 11 with the first stage whose link is stopped. 0: the walk is clear. */
 uint64_t tabashfar_walk(const uint8_t *sheet, size_t sheet_len, uint16_t source, uint32_t tag);

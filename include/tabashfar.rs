@@ -19,6 +19,9 @@ mod raw {
         pub fn tabashfar_link(sheet: *const u8, sheet_len: usize, stage: u8, switch: u16, code: u8) -> u64;
         pub fn tabashfar_listing(sheet: *const u8, sheet_len: usize, memory: *mut u8, memory_len: usize) -> u64;
         pub fn tabashfar_route(sheet: *const u8, sheet_len: usize, source: u16, destination: u16) -> u64;
+        pub fn tabashfar_routes(
+            sheet: *const u8, sheet_len: usize, pairs: *const u16, pairs_len: usize, answers: *mut u64, answers_len: usize,
+        ) -> u64;
         pub fn tabashfar_walk(sheet: *const u8, sheet_len: usize, source: u16, tag: u32) -> u64;
         pub fn tabashfar_header(sheet: *const u8, sheet_len: usize) -> u64;
         pub fn tabashfar_has_action(sheet: *const u8, sheet_len: usize, k: usize) -> u64;
@@ -90,6 +93,20 @@ pub fn listing(sheet: &[u8], memory: &mut [u8]) -> Result<usize, Refused> {
 
 pub fn route(sheet: &[u8], source: u16, destination: u16) -> Result<u32, Refused> {
     unpacked(unsafe { raw::tabashfar_route(sheet.as_ptr(), sheet.len(), source, destination) }).map(|tag| tag as u32)
+}
+
+/// Routes for many pairs over one book: a source and its destination one after the other, and for each pair one number at the front of the
+/// answers, which `answer` reads.
+pub fn routes(sheet: &[u8], pairs: &[u16], answers: &mut [u64]) -> Result<(), Refused> {
+    let answer = unsafe {
+        raw::tabashfar_routes(sheet.as_ptr(), sheet.len(), pairs.as_ptr(), pairs.len(), answers.as_mut_ptr(), answers.len())
+    };
+    unpacked(answer).map(|_| ())
+}
+
+/// What `route` answers, of a number that `routes` wrote.
+pub fn answer(written: u64) -> Result<u32, Refused> {
+    unpacked(written).map(|tag| tag as u32)
 }
 
 pub fn walk(sheet: &[u8], source: u16, tag: u32) -> Result<(), Refused> {

@@ -20,6 +20,8 @@ static void is(const char *what, uint64_t answer, unsigned number, uint64_t valu
 int main(void) {
     uint8_t memory[72] = {0};
     uint16_t fields[TABASHFAR_FIELDS] = {0};
+    const uint16_t pairs[4] = {1, 0, 1, 8};
+    uint64_t answers[2] = {0};
     const size_t len = sizeof sheet;
     is("tag_to_steps", tabashfar_tag_to_steps(3, 1, 8, memory, 3), 0, 0);
     is("steps_to_tag", tabashfar_steps_to_tag(3, 1, memory, 3), 0, 8);
@@ -32,6 +34,9 @@ int main(void) {
     is("link", tabashfar_link(sheet, len, 0, 1, 2), 0, 1);
     is("listing", tabashfar_listing(sheet, len, memory, 10), 0, 1);
     is("route", tabashfar_route(sheet, len, 1, 0), 0, 8);
+    is("routes", tabashfar_routes(sheet, len, pairs, 4, answers, 2), 0, 0);
+    is("routes, the first", answers[0], 0, 8);
+    is("routes, the second", answers[1], 10, 0);
     is("walk", tabashfar_walk(sheet, len, 1, 0), 11, 0);
     is("header", tabashfar_header(sheet, len), 0, 3 + 256 * 1);
     is("has_action", tabashfar_has_action(sheet, len, 1), 13, 0);

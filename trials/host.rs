@@ -25,6 +25,10 @@ fn main() {
     assert_eq!(tabashfar::link(&SHEET, 0, 1, 2), Ok(true));
     assert_eq!(tabashfar::listing(&SHEET, &mut memory[..10]), Ok(1));
     assert_eq!(tabashfar::route(&SHEET, 1, 0), Ok(8));
+    let mut answers = [0; 3];
+    assert_eq!(tabashfar::routes(&SHEET, &[1, 0, 1, 8], &mut answers), Ok(()));
+    assert_eq!(answers.map(tabashfar::answer), [Ok(8), refused(10), Ok(0)]);
+    assert_eq!(tabashfar::routes(&SHEET, &[1, 0, 1], &mut answers), refused(13));
     assert_eq!(tabashfar::walk(&SHEET, 1, 0), refused(11));
     assert_eq!(tabashfar::header(&SHEET), Ok((3, 1)));
     assert_eq!(tabashfar::has_action(&SHEET, 1), refused(13));

@@ -9,6 +9,8 @@ use Rattle.book.specs.declared.Book.{Book}
 use Rattle.book.specs.declared.Listing.{Listing}
 use Rattle.book.specs.Entries.{listingSays, Lists}
 use Rattle.book.proofs.Once.{lists-once}
+use Rattle.pairs.specs.Pairs.{RoutesPairs}
+use Rattle.pairs.proofs.Pairs.{pairs-once}
 use Rattle.handed.specs.Books.{OverLent}
 use Rattle.handed.proofs.Once.{over-once}
 use Rattle.tags.specs.Entries.{TagToSteps}
@@ -33,6 +35,11 @@ listing-told-once sheet before after later q r v w = over-once sheet before afte
     same b x y =
         let e = lists-once b before after later (x .0) (y .0) (x .1) (y .1) in
         (x .2 ∙ ap (λ (a : Listing). packed (listingSays a)) (e .0) ∙ sym (y .2), e .1)
+
+pub routes-told-once : (sheet pairs before after later : List ℕ) (q r : ℕ)
+    → OverLent sheet before after (λ b. RoutesPairs b pairs before after) q → OverLent sheet before later (λ b. RoutesPairs b pairs before later) r
+    → (q ≡ r) × (after ≡ later)
+routes-told-once sheet pairs before after later q r v w = over-once sheet before after later _ _ q r (λ b x y. pairs-once b pairs before after later q r x y) v w
 
 pub run-told-once : (sheet before after later : List ℕ) (q r : ℕ)
     → Tells (λ a. Runs sheet before a after) ranSays q → Tells (λ a. Runs sheet before a later) ranSays r → (q ≡ r) × (after ≡ later)

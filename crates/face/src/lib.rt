@@ -31,6 +31,7 @@ ghost use Rattle.sheet.specs.Entries.{headerSays, ReadsHeader, HasAction, start
 ghost use Rattle.printed.specs.Runs.{ranSays, Runs};
 ghost use Rattle.packing.specs.Packed.{byte, Tells};
 ghost use Rattle.fields.specs.Fields.{kindSays, ReadsFields};
+ghost use Rattle.pairs.specs.Pairs.{RoutesPairs};
 ghost use Rattle.handed.specs.Books.{keptSays, OverSheet, OverLent};
 
 // "tag to steps (n, source, tag, memory)"
@@ -179,6 +180,19 @@ pub extern "C" fn tabashfar_route(sheet: &[u8], source: u16, destination: u16) -
     let makes = handed.answer;
     match makes {
         Answer::Done => found(router::routed(handed.book, source, destination)),
+        Answer::Refused(why) => refused(why),
+    }
+}
+
+// "route", for each pair of a source and a destination, in order: one book for all, and the answers at the front of the memory
+#[no_mangle]
+pub extern "C" fn tabashfar_routes(sheet: &[u8], pairs: &[u16], answers: &mut [u64]) -> u64
+    ensures { λ r. ⌜ OverLent (now (sheet .entry)) (now (answers .entry)) (now (answers .exit)) (λ b. RoutesPairs b (now (pairs .entry)) (now (answers .entry)) (now (answers .exit))) r ⌝ }
+{
+    let handed = book_of(sheet);
+    let makes = handed.answer;
+    match makes {
+        Answer::Done => pairs::routes(handed.book, pairs, answers),
         Answer::Refused(why) => refused(why),
     }
 }
