@@ -3,6 +3,7 @@
 #[path = "../include/tabashfar.rs"]
 #[allow(dead_code)]
 mod face;
+#[allow(dead_code)] // the sheet asks for routes alone
 mod plain;
 mod plain_sheet;
 mod questions;
