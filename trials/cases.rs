@@ -2,7 +2,7 @@
 
 use crate::compared::Compared;
 use crate::draw::Draw;
-use crate::entries::{self, action_at, action_reader, changes, header, link, listing, route, run, walk};
+use crate::entries::{self, action_at, action_reader, changes, header, link, listing, route, routes, run, walk};
 use crate::face;
 use crate::model::{self, Notice, Target};
 use crate::rows::{action, book_of, filing, sheet_of, withdrawal, Row};
@@ -39,6 +39,8 @@ pub fn random_book(compared: &mut Compared, draw: &mut Draw) {
         let (stage, code) = (draw.stage(n), draw.code());
         link(compared, &sheet, &book, stage, source, code);
     }
+    let pairs: Vec<u16> = (0..draw.below(14)).map(|_| draw.pick(n, &near)).collect();
+    routes(compared, &sheet, &book, &pairs, draw.below(10) as usize);
     let standing = book.as_ref().map_or(0, |b| b.standing().len());
     for room in [0, 10 * standing, (10 * standing).saturating_sub(1), 10 * standing + 7] {
         listing(compared, &sheet, &book, room);
@@ -75,7 +77,10 @@ pub fn damaged_sheet(compared: &mut Compared, draw: &mut Draw) {
     }
     run(compared, &sheet, 24 + 48 * (count as usize + 3));
     let book = book_of(&sheet);
-    route(compared, &sheet, &book, draw.label(n), draw.label(n));
+    let (source, destination) = (draw.label(n), draw.label(n));
+    route(compared, &sheet, &book, source, destination);
+    routes(compared, &sheet, &book, &[source, destination, destination], draw.below(3) as usize);
+    routes(compared, &sheet, &book, &[source, destination, destination, source], draw.below(4) as usize);
 }
 
 /// Parts of every length, and ten bytes with one that matters.
@@ -170,6 +175,8 @@ fn stopping(links: &[(u8, u16, u8)]) -> Vec<Row> {
 fn every_question(compared: &mut Compared, n: u8, rows: &[Row], tags: bool) {
     let sheet = sheet_of(n, rows);
     let book = book_of(&sheet);
+    let pairs: Vec<u16> = (0..=1u16 << n).flat_map(|s| (0..=1u16 << n).flat_map(move |d| [s, d])).collect();
+    routes(compared, &sheet, &book, &pairs, pairs.len() / 2);
     for source in 0..1u16 << n {
         for destination in 0..1u16 << n {
             route(compared, &sheet, &book, source, destination);

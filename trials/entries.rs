@@ -48,6 +48,27 @@ pub fn route(compared: &mut Compared, sheet: &[u8], book: &Result<Book, u8>, sou
     compared.same(entry, told(face::route(sheet, source, destination)), plain, || format!("sheet {sheet:?} from {source} to {destination}"));
 }
 
+/// What a route answers as one number, as include/tabashfar.h says.
+fn packed(answer: Result<u32, (u8, Option<u8>)>) -> u64 {
+    match answer {
+        Ok(tag) => u64::from(tag) << 8,
+        Err((number, stage)) => u64::from(number) | u64::from(stage.unwrap_or(0)) << 8,
+    }
+}
+
+/// Routes for many pairs in one call, against the model's routes one after the other; the room asked for is include/tabashfar.h's.
+pub fn routes(compared: &mut Compared, sheet: &[u8], book: &Result<Book, u8>, pairs: &[u16], room: usize) {
+    let (mut proved, mut plain) = (vec![0xAAAA_AAAA_AAAA_AAAA; room], vec![0xAAAA_AAAA_AAAA_AAAA; room]);
+    let short = pairs.len() % 2 == 1 || 2 * room < pairs.len();
+    let answer = book.as_ref().map_err(|&k| k).and_then(|b| if short { Err(13) } else { Ok(b) });
+    if let Ok(b) = answer {
+        pairs.chunks(2).zip(&mut plain).for_each(|(pair, place)| *place = packed(b.route(pair[0], pair[1])));
+    }
+    let entry = if answer.is_ok() { "routes in one call" } else { "routes in one call, refused" };
+    let given = number(face::routes(sheet, pairs, &mut proved));
+    compared.same(entry, (given, proved), (answer.map(|_| ()), plain), || format!("sheet {sheet:?} pairs {pairs:?} room {room}"));
+}
+
 pub fn walk(compared: &mut Compared, sheet: &[u8], book: &Result<Book, u8>, source: u16, tag: u32) {
     let plain = book.as_ref().map_err(|&k| (k, None)).and_then(|b| b.walk(source, tag));
     compared.same("walk", told(face::walk(sheet, source, tag)), plain, || format!("sheet {sheet:?} source {source} tag {tag}"));

@@ -8,8 +8,10 @@ use crate::rows::{book_of, filing, question, sheet_of, withdrawal, Row};
 
 pub fn all(compared: &mut Compared, draw: &mut Draw) {
     sizes(compared);
+    pairs(compared, draw);
     for n in 1..=12 {
         labels(compared, n);
+        labels_in_one_call(compared, n);
         tags(compared, draw, n);
         codes(compared, draw, n);
         notices(compared, n);
@@ -42,6 +44,33 @@ fn labels(compared: &mut Compared, n: u8) {
         entries::link(compared, &sheet, &book, 0, label, 0);
         if label % 16 == 0 {
             entries::tags(compared, n, label, 0, &[0; 12]);
+        }
+    }
+}
+
+/// The same labels and more, of one call: as a source, and as a destination.
+fn labels_in_one_call(compared: &mut Compared, n: u8) {
+    let sheet = sheet_of(n, &[filing(Notice { number: 1, target: Target::Links { stage: 0, switch: 0, set: 1 } })]);
+    let book = book_of(&sheet);
+    let pairs: Vec<u16> = ((1u16 << n) / 2..=u16::MAX).flat_map(|label| [label, 0, 0, label]).collect();
+    entries::routes(compared, &sheet, &book, &pairs, pairs.len() / 2 + 1);
+}
+
+/// Every length of pairs and every room up to some, over sheets whose headers are good and bad.
+fn pairs(compared: &mut Compared, draw: &mut Draw) {
+    let near = draw.near(4);
+    let good = sheet_of(4, &draw.rows(4, &near, 12));
+    let (mut marked, mut sized, mut counted) = (good.clone(), good.clone(), good.clone());
+    marked[0] ^= 1;
+    sized[5] = 13;
+    counted[7] += 1;
+    for sheet in [good, marked, sized, counted, Vec::new()] {
+        let book = book_of(&sheet);
+        for length in 0..40 {
+            for room in 0..24 {
+                let pairs: Vec<u16> = (0..length).map(|_| draw.pick(4, &near)).collect();
+                entries::routes(compared, &sheet, &book, &pairs, room);
+            }
         }
     }
 }
@@ -116,6 +145,7 @@ fn headers(compared: &mut Compared) {
             let mut changed = sheet.clone();
             changed[place] = byte;
             entries::header(compared, &changed);
+            entries::routes(compared, &changed, &book_of(&changed), &[0, 1, 1, 8], 3);
         }
     }
     (0..sheet.len()).for_each(|length| entries::header(compared, &sheet[..length]));

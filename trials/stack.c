@@ -17,6 +17,8 @@ static uint8_t stack[STACK];
 static uint8_t sheet[8 + 10 * ACTIONS];
 static uint8_t memory[24 + 48 * ACTIONS];
 static uint16_t fields[TABASHFAR_FIELDS];
+static const uint16_t pairs[4] = {1, 4095, 4095, 1};
+static uint64_t answers[2];
 static ucontext_t here, there;
 
 /* n = 12: filings of falling number, so that each moves all others; every fifth action withdraws one, every seventh routes */
@@ -55,6 +57,7 @@ static void make_sheet(void) {
     CALL(link, tabashfar_link(sheet, sizeof sheet, 0, 1, 2)) \
     CALL(listing, tabashfar_listing(sheet, sizeof sheet, memory, sizeof memory)) \
     CALL(route, tabashfar_route(sheet, sizeof sheet, 1, 4095)) \
+    CALL(routes, tabashfar_routes(sheet, sizeof sheet, pairs, 4, answers, 2)) \
     CALL(walk, tabashfar_walk(sheet, sizeof sheet, 1, 0)) \
     CALL(header, tabashfar_header(sheet, sizeof sheet)) \
     CALL(has_action, tabashfar_has_action(sheet, sizeof sheet, 1)) \
