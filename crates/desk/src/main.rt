@@ -15,7 +15,7 @@ fn main() {
     let mut sheet = [0u8; input::INPUT_ROOM];
     let read = read_input(&mut sheet);
     let mut lines = [0u8; input::TEXT_ROOM];
-    match input::run(&sheet, read, &mut lines) {
+    match program::run(&sheet, read, &mut lines) {
         Output::Text(bytes) => print(&lines, bytes),
         Output::Unread => complain(
             b"desk: standard input could not be read",

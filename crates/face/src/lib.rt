@@ -192,7 +192,7 @@ pub extern "C" fn tabashfar_routes(sheet: &[u8], pairs: &[u16], answers: &mut [u
     let handed = book_of(sheet);
     let makes = handed.answer;
     match makes {
-        Answer::Done => pairs::routes(handed.book, pairs, answers),
+        Answer::Done => many_routes::routes(handed.book, pairs, answers),
         Answer::Refused(why) => refused(why),
     }
 }

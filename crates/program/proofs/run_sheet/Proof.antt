@@ -1,8 +1,8 @@
 -- The lines have room for the text of every sheet, so the run is not refused.
 use borrow.Author.Needs.{needs}
 use Rattle.input.proofs.Promises.{run-writes, run-has-room}
-use Rattle.input.proofs.run_sheet.Statement.{statement}
-use Rattle.input.proofs.run_sheet.Tie as tie
+use Rattle.program.proofs.run_sheet.Statement.{statement}
+use Rattle.program.proofs.run_sheet.Tie as tie
 
 run-requires : tie.Need-run-requires
 run-requires c κs = search needs

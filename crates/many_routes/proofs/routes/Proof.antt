@@ -1,9 +1,9 @@
 -- Two refusals by the lengths, or the answers.
 use native.Mathlib.Omega.{arith}
 use Rattle.pairs.proofs.Promises.{odd-refused, few-refused, all-answered}
 use borrow.Author.Needs.{needs}
-use Rattle.pairs.proofs.routes.Statement.{statement}
-use Rattle.pairs.proofs.routes.Tie as tie
+use Rattle.many_routes.proofs.routes.Statement.{statement}
+use Rattle.many_routes.proofs.routes.Tie as tie
 
 refused-requires : tie.Need-refused-requires
 refused-requires c κs = search needs

@@ -3,12 +3,12 @@ use mathlib.Core.Path.{_≡_}
 use Prim.Native.Nat.{_-_, _≤_}
 use native.Mathlib.Omega.{arith}
 use lib.ListN.{length-set}
 use Rattle.pairs.specs.Answered.{Answered}
 use Rattle.pairs.specs.Pairs.{pairsIn}
 use Rattle.pairs.proofs.Promises.{none-answered, one-more}
 use borrow.Author.Needs.{needs}
-use Rattle.pairs.proofs.answer.Statement.{statement}
-use Rattle.pairs.proofs.answer.Tie as tie
+use Rattle.many_routes.proofs.answer.Statement.{statement}
+use Rattle.many_routes.proofs.answer.Tie as tie
 
 abbrev Inv-loop : tie.InvT-loop
 Inv-loop book pairs answers₀ count k₀ answers k = (k ≤ count) × Answered book pairs k answers₀ answers

@@ -2,9 +2,9 @@
 use mathlib.Core.Path.{sym}
 use borrow.Author.Needs.{needs}
 use lib.Seq.{length-take-le}
 use Rattle.input.proofs.Promises.{front-written, nothing-written}
-use Rattle.input.proofs.run.Statement.{statement}
-use Rattle.input.proofs.run.Tie as tie
+use Rattle.program.proofs.run.Statement.{statement}
+use Rattle.program.proofs.run.Tie as tie
 
 enum-known-input : tie.Need-enum-known-input
 enum-known-input c = search needs
