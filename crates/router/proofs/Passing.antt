@@ -1,28 +1,16 @@
 -- A route over a sound book passes 16, so 10 alone can refuse it.
 use mathlib.Core.Path.{_≡_, refl}
-use mathlib.Core.Bool.{true, false, _||_}
+use mathlib.Core.Bool.{true, _||_}
 use Prim.Native.Nat.{ℕ, _<_}
-use borrow.Author.Tests.{le-ltb}
 use Rattle.table.specs.declared.Refusal.{Refusal}
 use Rattle.table.specs.Checks.{Given.here, Given.later, _notBelow_}
 use Rattle.fabric.specs.Labels.{size}
-use Rattle.standing.proofs.Filings.{filed-passes, filler-unlittered}
 use Rattle.book.specs.declared.Book.{Book}
-use Rattle.book.specs.Standing.{standing, unsound, stopsOf, Sound}
+use Rattle.book.specs.Standing.{stopsOf, Sound}
+use Rattle.book.proofs.Filings.{sound-passes}
 use Rattle.routes.specs.declared.Found.{Found}
 use Rattle.routes.specs.Routed.{Routed, Routes}
 use Rattle.routes.proofs.Entries.{route-lets-pass, route-refuses, route-passes}
-
-pub sound-passes : (b : Book) → Sound b → unsound b ≡ false
-sound-passes b s =
-    rw (
-      le-ltb (b .n) 1 (s .some),
-      le-ltb 12 (b .n) (s .few),
-      le-ltb 48 (b .count) (s .fits),
-      filed-passes (b .n) 0 (standing b) (s .filed),
-      s .rest,
-      filler-unlittered,
-    )
 
 module _ (b : Book) (s d : ℕ) (sound : Sound b) where
   pub refused-label : (s notBelow size (b .n) || d notBelow size (b .n)) ≡ true → Routes b s d (Found.Refused Refusal.Label)
