@@ -1,14 +1,14 @@
 // Document 01, 'Numbers handed back': what a book is asked: link stopped or not, and listing.
 use actions::ACTION_LENGTH;
 use book::Book;
-use book::Link;
-use book::Listing;
+use questions::Link;
+use questions::Listing;
 use table::Refusal;
 ghost use mathlib.Core.Path.{_≡_};
 ghost use Prim.Native.Nat.{_<_};
 ghost use Rattle.fabric.specs.Labels.{size};
 ghost use Rattle.book.specs.Standing.{standing, stopper, Sound};
-ghost use Rattle.book.specs.Entries.{Tests, Lists};
+ghost use Rattle.questions.specs.Entries.{Tests, Lists};
 
 // The lowest number of a standing notice that names the link, or 0.
 pub fn stopper(book: Book, stage: u8, switch: u16, code: u8) -> u16

@@ -1,38 +1,30 @@
--- What the entries' definitions say: the order of each entry's checks and what passes them, what the answers say, and which book or
--- memory is left.
+-- What the entries' definitions say: the order of each entry's checks and what passes them, what the answers say, and which book
+-- is handed back.
 use mathlib.Core.Path.{_≡_, refl, sym, ap, _∙_}
 use mathlib.Core.Bool.{Bool, true, false, not, _||_, true≢false}
-use mathlib.Core.List.{List, [], _∷_, _++_, List·Memᴰ}
+use mathlib.Core.List.{List, [], _∷_, List·Memᴰ}
 use mathlib.Core.Logic.{_⊎_, inl, inr, ⊎-elim, _↔_}
-use Prim.Native.Nat.{ℕ, zero, suc, _*_, _≤_, _<_}
+use Prim.Native.Nat.{ℕ, zero, suc, _≤_, _<_}
 use native.Mathlib.Omega.{arith}
-use native.Mathlib.Decide.{ℕ-discrete}
 use borrow.Author.Tests.{ltb-false, leb-false, eqb-false, not-false, le-ltb, le-leb, lt-leb, ne-eqb}
-use lib.ListN.{length, take, drop, getD}
-use lib.Seq.{take-at, drop-at}
+use lib.ListN.{length, getD}
 use Rattle.table.specs.declared.Refusal.{Refusal}
 use Rattle.table.specs.Numbers.{numberOf}
-use Rattle.table.specs.Reply.{Reply, refused, Numbered, answerSays}
+use Rattle.table.specs.Reply.{Reply, refused, answerSays}
 use Rattle.table.specs.Checks.{Check, Given, Given.here, Given.later, Passed, Passed.none, Passed.passes, _when_, _below_, _notBelow_, numbers}
-use Rattle.table.proofs.Numbers.{above-zero}
 use Rattle.table.proofs.Checks.{given-refuses, passed-accepts, accepted-passed, refused-given, passed-nth, neither, neither-of}
-use Rattle.fabric.specs.Labels.{size, outsideSizes}
-use Rattle.fabric.specs.Links.{Code}
+use Rattle.fabric.specs.Labels.{outsideSizes}
 use Rattle.notices.specs.declared.Notice.{Notice}
 use Rattle.notices.specs.Targets.{outsideFabric, badField, tooWide, unfit}
 use Rattle.book.specs.declared.Book.{Book}
 use Rattle.book.specs.declared.Kept.{Kept}
 use Rattle.table.specs.declared.Answer.{Answer}
-use Rattle.book.specs.declared.Link.{Link}
-use Rattle.book.specs.declared.Listing.{Listing}
 use Rattle.standing.specs.Rising.{stands, insert, without}
-use Rattle.actions.specs.Rows.{rows}
 use Rattle.book.specs.Standing.{standing, unsound, Sound, Stopped, stopsOf}
-use Rattle.book.specs.Entries.{linkSays, listingSays, HandsBack, openChecks, opened, Opens, bookChecks, fileChecks, filed, Files, withdrawChecks, withdrawn, Withdraws, linkChecks, Tests, listingChecks, Lists}
-use Rattle.actions.proofs.Listings.{length-rows}
+use Rattle.book.specs.Entries.{HandsBack, openChecks, opened, Opens, bookChecks, fileChecks, filed, Files, withdrawChecks, withdrawn, Withdraws}
 use Rattle.standing.proofs.Members.{stands-member, member-stands, insert-has, insert-keeps, insert-member, without-keeps, without-member}
 use Rattle.book.proofs.Filings.{standing-of, sound-if}
-use Rattle.book.proofs.Stoppers.{stopper-none, stopper-some}
+use Rattle.book.proofs.Stoppers.{stopper-none}
 
 -- a check that is passed, by its place
 abbrev PassedAt : List Check → ℕ → Type 0
@@ -133,48 +125,6 @@ module _ (b : Book) (k : ℕ) where
     (λ w. let some = w .1 in passes (w .0) (passes (ne-eqb k 0 (λ e. omega arith)) (passes (ap not (number-stands k (standing b) (w .2))) none))),
   )
 
-module _ (b : Book) (i j c : ℕ) where
-  -- "link stopped or not: 16, 4, 12."
-  pub link-order : numbers (linkChecks b i j c) ≡ 16 ∷ 4 ∷ 12 ∷ []
-  link-order = refl
-
-  -- 4: "stage, column or switch outside the fabric"; 12: "a code above 2"
-  pub link-lets-pass : Passed (linkChecks b i j c) ↔ ((unsound b ≡ false) × (i < b .n) × (j < size (b .n)) × Code c)
-  link-lets-pass = (
-    (λ p.
-        let ok : (k : ℕ) → PassedAt (linkChecks b i j c) k = λ k. passed-nth (linkChecks b i j c) k p in
-        let w = neither (i notBelow b .n) (j notBelow size (b .n)) (ok 1) in
-        let low = ltb-false 2 c (ok 2) in
-        (ok 0, leb-false (b .n) i (w .0), leb-false (size (b .n)) j (w .1), omega arith)),
-    (λ w.
-        let low = w .3 in
-        passes (w .0) (passes (neither-of _ _ (lt-leb (b .n) i (w .1)) (lt-leb (size (b .n)) j (w .2))) (passes (le-ltb 2 c (omega arith)) none))),
-  )
-
-module _ (b : Book) (memory : List ℕ) where
-  -- "listing: 16, 13."
-  pub listing-order : numbers (listingChecks b memory) ≡ 16 ∷ 13 ∷ []
-  listing-order = refl
-
-  -- 13: "lent memory too short", shorter than ten bytes for each notice that stands
-  pub listing-lets-pass : Passed (listingChecks b memory) ↔ ((unsound b ≡ false) × (10 * length (standing b) ≤ length memory))
-  listing-lets-pass = (
-    (λ p.
-        let ok : (k : ℕ) → PassedAt (listingChecks b memory) k = λ k. passed-nth (listingChecks b memory) k p in
-        (ok 0, ltb-false (length memory) (10 * length (standing b)) (ok 1))),
-    (λ w. passes (w .0) (passes (le-ltb (length memory) (10 * length (standing b)) (w .1)) none)),
-  )
-
--- every refusal comes with a number of the table
-pub link-numbered : (a : Link) → Numbered (linkSays a)
-link-numbered Link.Clear = tt
-link-numbered Link.Stopped = tt
-link-numbered (Link.Refused why) = above-zero why
-
-pub listing-numbered : (a : Listing) → Numbered (listingSays a)
-listing-numbered (Listing.Listed count) = tt
-listing-numbered (Listing.Refused why) = above-zero why
-
 -- "Each hands the book back with its answer."
 module _ (checks : List Check) (given made : Book) (r : Kept) (kept : HandsBack checks given made r) where
   -- accepted exactly when every check is passed, and then with the book that the change makes
@@ -203,53 +153,18 @@ pub refused-opening-is-empty : (n : ℕ) (r : Kept) (why : Refusal) → Opens n 
 refused-opening-is-empty n r why p e = let k = refused-hands-back _ _ _ r p why e in (ap (λ (b : Book). b .n) k, ap standing k)
 
 -- "which every entry over a book answers with 16"
-pub refused-opening-sixteen : (n : ℕ) (x : Notice) (k i j c : ℕ) (memory : List ℕ) → outsideSizes n ≡ true
-    → Given 16 (fileChecks (opened n) x) × Given 16 (withdrawChecks (opened n) k) × Given 16 (linkChecks (opened n) i j c) × Given 16 (listingChecks (opened n) memory)
-refused-opening-sixteen n x k i j c memory size =
+pub refused-opening-sixteen : (n : ℕ) (x : Notice) (k : ℕ) → outsideSizes n ≡ true → Given 16 (fileChecks (opened n) x) × Given 16 (withdrawChecks (opened n) k)
+refused-opening-sixteen n x k size =
     let u : unsound (opened n) ≡ true = rw size in
-    (here u refl, here u refl, here u refl, here u refl)
+    (here u refl, here u refl)
 
 -- "otherwise an empty book of size n"
 pub opening-is-empty : (n : ℕ) (r : Kept) → Opens n r → r .answer ≡ Answer.Done → (r .book .n ≡ n) × (standing (r .book) ≡ [])
 opening-is-empty n r p e = let k = done-hands-back _ _ _ r p e in (ap (λ (b : Book). b .n) k, ap standing k)
 
 -- which links a book stops: those that a standing notice names
-module _ (b : Book) (places : length (b .notices) ≡ 48) (i j c : ℕ) where
-  pub stops-exactly : unsound b ≡ false → (stopsOf b i j c ≡ 0) ↔ (Stopped (b .n) (standing b) i j c → ⊥)
-  stops-exactly sound = stopper-none (b .n) i j c (standing b) (sound-if b places sound .filed)
-
-  -- "link stopped or not": it says 1 where a standing notice names the link, and 0 otherwise
-  pub link-says-exactly : (r : Link) → Passed (linkChecks b i j c) → Tests b i j c r
-      → ((linkSays r ≡ Reply.accepted (0 ∷ [])) × (Stopped (b .n) (standing b) i j c → ⊥)) ⊎ ((linkSays r ≡ Reply.accepted (1 ∷ [])) × Stopped (b .n) (standing b) i j c)
-  link-says-exactly r passed t = go (ℕ-discrete (stopsOf b i j c) 0)
-    where
-      sound : unsound b ≡ false
-      sound = link-lets-pass b i j c .0 passed .0
-
-      go : Dec (stopsOf b i j c ≡ 0)
-          → ((linkSays r ≡ Reply.accepted (0 ∷ [])) × (Stopped (b .n) (standing b) i j c → ⊥)) ⊎ ((linkSays r ≡ Reply.accepted (1 ∷ [])) × Stopped (b .n) (standing b) i j c)
-      go (yes e) = let none = stops-exactly sound .0 e in inl (t .clear passed none, none)
-      go (no e) = let some = stopper-some (b .n) i j c (standing b) (sound-if b places sound .filed) .0 e in inr (t .stopped passed some, some)
-
--- the listing: "ten bytes each .. at the front; the rest stays. It answers how many there are."
-module _ (b : Book) (before after : List ℕ) (r : Listing) (lists : Lists b before after r) where
-  pub listed-exactly : Passed (listingChecks b before)
-      → (listingSays r ≡ Reply.accepted (length (standing b) ∷ []))
-      × (take (10 * length (standing b)) after ≡ rows (standing b))
-      × (drop (10 * length (standing b)) after ≡ drop (10 * length (standing b)) before)
-  listed-exactly passed =
-      let l = length-rows (standing b) in
-      let left : after ≡ rows (standing b) ++ drop (10 * length (standing b)) before =
-      lists .leaves ∙ passed-accepts (λ k. before) (rows (standing b) ++ drop (10 * length (standing b)) before) (listingChecks b before) passed in (
-        lists .says ∙ passed-accepts refused (Reply.accepted (length (standing b) ∷ [])) (listingChecks b before) passed,
-        ap (take (10 * length (standing b))) left ∙ take-at (rows (standing b)) (drop (10 * length (standing b)) before) (10 * length (standing b)) l,
-        ap (drop (10 * length (standing b))) left ∙ drop-at (rows (standing b)) (drop (10 * length (standing b)) before) (10 * length (standing b)) l,
-      )
-
-  pub refused-listing-writes-nothing : (why : Refusal) → r ≡ Listing.Refused why → after ≡ before
-  refused-listing-writes-nothing why e =
-      let g = refused-given (listingChecks b before) (length (standing b) ∷ []) (numberOf why) (sym (ap listingSays e) ∙ lists .says) in
-      lists .leaves ∙ given-refuses (λ k. before) (rows (standing b) ++ drop (10 * length (standing b)) before) (numberOf why) (listingChecks b before) g
+pub stops-exactly : (b : Book) → length (b .notices) ≡ 48 → (i j c : ℕ) → unsound b ≡ false → (stopsOf b i j c ≡ 0) ↔ (Stopped (b .n) (standing b) i j c → ⊥)
+stops-exactly b places i j c sound = stopper-none (b .n) i j c (standing b) (sound-if b places sound .filed)
 
 -- what stands in the book that an accepted filing makes: that notice, what stood, and no other
 pub filed-standing : (b : Book) (x y : Notice) → List·Memᴰ y (standing (filed b x)) ↔ ((y ≡ x) ⊎ List·Memᴰ y (standing b))

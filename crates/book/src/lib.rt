@@ -1,4 +1,4 @@
-// Document 01, 'Notices': the book of notices, what its entries answer, and those that hand it back: open, file, withdraw.
+// Document 01, 'Notices': the book of notices, and the entries that hand it back: open, file, withdraw.
 use notices::Notice;
 use table::Answer;
 use table::Refusal;
@@ -22,19 +22,6 @@ pub struct Book {
 pub struct Kept {
     pub book: Book,
     pub answer: Answer,
-}
-
-// What the link test answers.
-pub enum Link {
-    Clear,
-    Stopped,
-    Refused(Refusal),
-}
-
-// What the listing answers: how many notices stand.
-pub enum Listing {
-    Listed(usize),
-    Refused(Refusal),
 }
 
 // Whether no accepted opening, filing and withdrawing produce the book.

@@ -1,10 +1,10 @@
 // Runs the book's entries on document 01's example 13, on a full book, on every refusal that they give, and on damaged books,
 // and writes a line for each call.
 use book::Book;
-use book::Link;
-use book::Listing;
 use notices::Notice;
 use notices::Target;
+use questions::Link;
+use questions::Listing;
 use show::number;
 use show::refused;
 use show::word;

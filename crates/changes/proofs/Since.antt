@@ -16,11 +16,12 @@ use Rattle.table.specs.Checks.{Passed.none, Passed.passes}
 use Rattle.fabric.specs.Labels.{size, outsideSizes}
 use Rattle.notices.specs.declared.Notice.{Notice}
 use Rattle.book.specs.declared.Book.{Book}
-use Rattle.book.specs.declared.Link.{Link}
+use Rattle.questions.specs.declared.Link.{Link}
 use Rattle.notices.specs.Targets.{names}
 use Rattle.book.specs.Standing.{standing, bookOf, Stopped, stopper}
-use Rattle.book.specs.Entries.{opened, linkChecks, linkSays, Tests}
-use Rattle.book.proofs.Testing.{tests-says}
+use Rattle.book.specs.Entries.{opened}
+use Rattle.questions.specs.Entries.{linkChecks, linkSays, Tests}
+use Rattle.questions.proofs.Testing.{tests-says}
 use Rattle.changes.specs.Runs.{NamedSince, Change, after, Accepted, run, AllAccepted, NotWithdrawn, StandsSince}
 use Rattle.standing.specs.Rising.{Distinct}
 use Rattle.standing.proofs.Members.{filed-distinct}
@@ -28,7 +29,7 @@ pub use Rattle.changes.proofs.Runs.{run-on}
 use Rattle.changes.proofs.Changes.{Good, good-after, filed-stands, stands-on, stood-or-filed}
 use Rattle.changes.proofs.Reach.{good-run, good-sound, opened-good, opened-is, any-order}
 use Rattle.book.proofs.Stoppers.{stopper-some}
-use Rattle.book.proofs.Once.{link-tells}
+use Rattle.questions.proofs.Once.{link-tells}
 
 module _ (n : ℕ) (x : Notice) where
   stays : (changes : List Change) (b : Book) → Good n b → List·Memᴰ x (standing b) → NotWithdrawn (x .number) changes b → List·Memᴰ x (standing (run changes b))

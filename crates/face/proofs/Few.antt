@@ -11,9 +11,9 @@ use Rattle.table.proofs.Checks.{accepted-passed, accepted-says, passed-nth, nei
 use Rattle.fabric.specs.Labels.{outsideSizes}
 use Rattle.standing.specs.Rising.{misfiled, littered}
 use Rattle.book.specs.declared.Book.{Book}
-use Rattle.book.specs.declared.Listing.{Listing}
+use Rattle.questions.specs.declared.Listing.{Listing}
 use Rattle.book.specs.Standing.{standing, unused}
-use Rattle.book.specs.Entries.{listingSays, listingChecks, Lists}
+use Rattle.questions.specs.Entries.{listingSays, listingChecks, Lists}
 
 pub few-listed : {b : Book} {before after : List ℕ} {r : Listing} {count : ℕ} → Lists b before after r → r ≡ Listing.Listed count → count ≤ 48
 few-listed {b} {before} {after} {r} {count} w e =

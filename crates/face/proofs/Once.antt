@@ -6,9 +6,9 @@ use Prim.Native.Nat.{ℕ}
 use Rattle.table.specs.Reply.{answerSays}
 use Rattle.packing.specs.Packed.{packed, Tells}
 use Rattle.book.specs.declared.Book.{Book}
-use Rattle.book.specs.declared.Listing.{Listing}
-use Rattle.book.specs.Entries.{listingSays, Lists}
-use Rattle.book.proofs.Once.{lists-once}
+use Rattle.questions.specs.declared.Listing.{Listing}
+use Rattle.questions.specs.Entries.{listingSays, Lists}
+use Rattle.questions.proofs.Once.{lists-once}
 use Rattle.pairs.specs.Pairs.{RoutesPairs}
 use Rattle.pairs.proofs.Pairs.{pairs-once}
 use Rattle.handed.specs.Books.{OverLent}

@@ -1,7 +1,7 @@
 // An answer as one number (`packed`): the table's number in the low byte, 0 where the call was accepted, and the value after it.
-use book::Link;
-use book::Listing;
 use printed::Ran;
+use questions::Link;
+use questions::Listing;
 use routes::Found;
 use sheet::Header;
 use table::Answer;
@@ -12,7 +12,7 @@ ghost use Rattle.table.specs.Reply.{answerSays};
 ghost use mathlib.Core.Path.{_≡_};
 ghost use Prim.Native.Nat.{ℕ, _≤_};
 ghost use Rattle.tags.specs.Entries.{tagSays};
-ghost use Rattle.book.specs.Entries.{linkSays, listingSays};
+ghost use Rattle.questions.specs.Entries.{linkSays, listingSays};
 ghost use Rattle.walks.specs.Entries.{walkSays};
 ghost use Rattle.routes.specs.Routed.{routeSays};
 ghost use Rattle.sheet.specs.Entries.{headerSays};

@@ -8,14 +8,16 @@ use Prim.Native.Nat.{ℕ}
 use Rattle.notices.specs.declared.Notice.{Notice}
 use Rattle.book.specs.declared.Book.{Book}
 use Rattle.book.specs.declared.Kept.{Kept}
-use Rattle.book.specs.declared.Link.{Link}
-use Rattle.book.specs.declared.Listing.{Listing}
-use Rattle.book.specs.Entries.{opened, Files, Withdraws, Tests, Lists}
+use Rattle.questions.specs.declared.Link.{Link}
+use Rattle.questions.specs.declared.Listing.{Listing}
+use Rattle.book.specs.Entries.{opened, Files, Withdraws}
+use Rattle.questions.specs.Entries.{Tests, Lists}
 use Rattle.changes.specs.Runs.{Change, run, AllAccepted, StandsSince}
 use Rattle.standing.specs.Rising.{Distinct, Reordered}
 use Rattle.standing.proofs.Distinct.{distinct-reordered}
 use Rattle.changes.proofs.Since.{same-book}
-use Rattle.book.proofs.Once.{files-once, withdraws-once, tests-once, lists-once}
+use Rattle.book.proofs.Once.{files-once, withdraws-once}
+use Rattle.questions.proofs.Once.{tests-once, lists-once}
 use Rattle.walks.specs.declared.Ended.{Ended}
 use Rattle.routes.specs.declared.Found.{Found}
 use Rattle.walks.specs.Entries.{Walks}

@@ -20,11 +20,12 @@ use Rattle.frontier.specs.Frontier.{through, lesser, advanced, mirrored}
 use Rattle.book.specs.declared.Book.{Book}
 use Rattle.book.specs.Standing.{standing, stopper, stopsOf}
 use Rattle.standing.specs.Rising.{stands, insert, without, misfiled, littered}
-use Rattle.book.specs.declared.Link.{Link}
-use Rattle.book.specs.Entries.{opened, linkChecks, Tests}
+use Rattle.questions.specs.declared.Link.{Link}
+use Rattle.book.specs.Entries.{opened}
+use Rattle.questions.specs.Entries.{linkChecks, Tests}
 use Rattle.changes.specs.Runs.{Change, changeChecks, after, run, AllAccepted}
 use Rattle.changes.proofs.Changes.{taken}
-use Rattle.book.proofs.Answers.{link-stopped}
+use Rattle.questions.proofs.Answers.{link-stopped}
 use Rattle.routes.specs.declared.Found.{Found}
 use Rattle.routes.specs.Routed.{Routed, routeChecks, Routes}
 use Rattle.routes.proofs.Entries.{route-passes}

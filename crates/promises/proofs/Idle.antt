@@ -14,7 +14,7 @@ use Rattle.notices.specs.declared.Target.the-variants.{Links}
 use Rattle.notices.specs.Targets.{names}
 use Rattle.book.specs.declared.Book.{Book}
 use Rattle.table.specs.declared.Answer.{Answer}
-use Rattle.book.specs.declared.Link.{Link}
+use Rattle.questions.specs.declared.Link.{Link}
 use Rattle.book.specs.Standing.{stopper}
 use Rattle.book.specs.Entries.{opened}
 use Rattle.changes.specs.Runs.{Change, run}

@@ -17,10 +17,11 @@ use Rattle.fabric.specs.Labels.{size}
 use Rattle.notices.specs.declared.Notice.{Notice}
 use Rattle.book.specs.declared.Book.{Book}
 use Rattle.table.specs.declared.Answer.{Answer}
-use Rattle.book.specs.declared.Link.{Link}
+use Rattle.questions.specs.declared.Link.{Link}
 use Rattle.book.specs.Standing.{standing, stopper, stopsOf}
-use Rattle.book.proofs.Testing.{says-tests}
-use Rattle.book.specs.Entries.{linkSays, opened, fileChecks, withdrawChecks, linkChecks, Tests}
+use Rattle.questions.proofs.Testing.{says-tests}
+use Rattle.book.specs.Entries.{opened, fileChecks, withdrawChecks}
+use Rattle.questions.specs.Entries.{linkSays, linkChecks, Tests}
 use Rattle.changes.specs.Runs.{Change, changeChecks, answer, after, Accepted, run, NotWithdrawn, StandsSince}
 use Rattle.table.proofs.Answers.{answer-tells}
 use Rattle.changes.proofs.Since.{link-exactly}

@@ -16,7 +16,7 @@ use Rattle.scheme.specs.Tags.{steered}
 use Rattle.notices.specs.declared.Notice.{Notice}
 use Rattle.notices.specs.declared.Target.the-variants.{Links}
 use Rattle.book.specs.declared.Book.{Book}
-use Rattle.book.specs.declared.Link.{Link}
+use Rattle.questions.specs.declared.Link.{Link}
 use Rattle.book.specs.Standing.{stopper, stopsOf}
 use Rattle.standing.specs.Rising.{stands, insert, misfiled, littered}
 use Rattle.book.specs.Entries.{opened}

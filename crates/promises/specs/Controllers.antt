@@ -17,7 +17,7 @@ use Rattle.notices.specs.declared.Notice.{Notice}
 use Rattle.notices.specs.Targets.{names}
 use Rattle.book.specs.declared.Book.{Book}
 use Rattle.table.specs.declared.Answer.{Answer}
-use Rattle.book.specs.declared.Link.{Link}
+use Rattle.questions.specs.declared.Link.{Link}
 use Rattle.book.specs.Standing.{stopsOf}
 use Rattle.book.specs.Entries.{Files}
 use Rattle.changes.specs.Runs.{Change}

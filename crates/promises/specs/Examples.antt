@@ -6,8 +6,9 @@ use Rattle.tags.specs.declared.Tag.{Tag}
 use Rattle.table.specs.declared.Answer.{Answer}
 use Rattle.tags.specs.Entries.{TagToSteps, NormalForm}
 use Rattle.notices.specs.declared.Target.the-variants.{Links}
-use Rattle.book.specs.declared.Link.{Link}
-use Rattle.book.specs.Entries.{opened, Tests}
+use Rattle.questions.specs.declared.Link.{Link}
+use Rattle.book.specs.Entries.{opened}
+use Rattle.questions.specs.Entries.{Tests}
 use Rattle.changes.specs.Runs.{Change, run, AllAccepted}
 use Rattle.routes.specs.declared.Found.{Found}
 use Rattle.routes.specs.Routed.{Routes}

@@ -1,7 +1,7 @@
 -- 16 by the book's own test; past it the book is sound.
 use borrow.Author.Needs.{needs}
 use Rattle.table.proofs.Checks.{refusing}
-use Rattle.book.proofs.Answers.{link-refused}
+use Rattle.questions.proofs.Answers.{link-refused}
 use Rattle.asked.proofs.link.Statement.{statement}
 use Rattle.asked.proofs.link.Tie as tie
 

@@ -12,11 +12,10 @@ use Rattle.table.specs.Checks.{Given, Passed, Given.here, Given.later, Passed.n
 use Rattle.table.proofs.Checks.{given-refuses, passed-accepts}
 use Rattle.book.specs.Standing.{standing}
 use Rattle.actions.specs.Rows.{rows}
-use Rattle.book.specs.declared.Listing.{Listing}
-use Rattle.book.specs.Entries.{listingSays, listingChecks}
+use Rattle.questions.specs.declared.Listing.{Listing}
+use Rattle.questions.specs.Entries.{listingSays, listingChecks}
 use Rattle.places.proofs.Arrays.{length-mapped}
-use Rattle.book.proofs.Filings.{sound-passes}
-use Rattle.book.proofs.Filings.{length-standing}
+use Rattle.book.proofs.Filings.{sound-passes, length-standing}
 use Rattle.asked.proofs.listed.Statement.{statement}
 use Rattle.asked.proofs.listed.Tie as tie
 

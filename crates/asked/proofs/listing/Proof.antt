@@ -4,7 +4,7 @@ use borrow.Author.Needs.{needs}
 use Rattle.table.specs.Reply.{refused}
 use Rattle.table.specs.Checks.{Given, Given.here}
 use Rattle.table.proofs.Checks.{given-refuses}
-use Rattle.book.specs.Entries.{listingChecks}
+use Rattle.questions.specs.Entries.{listingChecks}
 use Rattle.asked.proofs.listing.Statement.{statement}
 use Rattle.asked.proofs.listing.Tie as tie
 

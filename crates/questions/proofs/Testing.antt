@@ -13,11 +13,11 @@ use Rattle.table.proofs.Checks.{given-refuses, passed-accepts, given-or-passed,
 use Rattle.fabric.specs.Labels.{outsideSizes}
 use Rattle.standing.specs.Rising.{Filed, misfiled, littered}
 use Rattle.standing.proofs.Filings.{filed-if}
 use Rattle.book.specs.declared.Book.{Book}
-use Rattle.book.specs.declared.Link.{Link}
+use Rattle.questions.specs.declared.Link.{Link}
 use Rattle.book.specs.Standing.{standing, unused, stopper}
-use Rattle.book.specs.Entries.{linkSays, linkChecks, Tests}
+use Rattle.questions.specs.Entries.{linkSays, linkChecks, Tests}
 use Rattle.book.proofs.Stoppers.{stopper-none, stopper-some}
 
 module _ (b : Book) (i j c : ℕ) where
   -- what is said past the checks
@@ -29,10 +29,10 @@ module _ (b : Book) (i j c : ℕ) where
       let o = neither (outsideSizes (b .n) || 48 below b .count || misfiled (b .n) 0 (standing b)) (littered (unused b)) (passed-nth (linkChecks b i j c) 0 p) in
       filed-if (b .n) 0 (standing b) (neither (outsideSizes (b .n) || 48 below b .count) (misfiled (b .n) 0 (standing b)) (o .0) .1)
 
-  says-clear : stopper (b .n) (standing b) i j c ≡ 0 → said ≡ Reply.accepted (0 ∷ [])
+  pub says-clear : stopper (b .n) (standing b) i j c ≡ 0 → said ≡ Reply.accepted (0 ∷ [])
   says-clear e = ap (λ (s : Bool). Reply.accepted (cond s 0 1 ∷ [])) (eq-eqb (stopper (b .n) (standing b) i j c) 0 e)
 
-  says-stopped : (stopper (b .n) (standing b) i j c ≡ 0 → ⊥) → said ≡ Reply.accepted (1 ∷ [])
+  pub says-stopped : (stopper (b .n) (standing b) i j c ≡ 0 → ⊥) → said ≡ Reply.accepted (1 ∷ [])
   says-stopped e = ap (λ (s : Bool). Reply.accepted (cond s 0 1 ∷ [])) (ne-eqb (stopper (b .n) (standing b) i j c) 0 e)
 
   pub says-tests : (r : Link) → linkSays r ≡ checked (linkChecks b i j c) refused said → Tests b i j c r
