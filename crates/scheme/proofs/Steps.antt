@@ -31,13 +31,12 @@ module _ (n d : ℕ) (states : ℕ → ℕ → ℕ) where
   pub steered-stages : (left i j : ℕ) → length (steered n d states left i j) ≡ left
   unfolding steered
   steered-stages zero i j = refl
-  steered-stages (suc left) i j = ap suc (steered-stages left (suc i) (lands n i (link (bit i j) (bit i d) (states i j)) j))
+  steered-stages (suc left) i j = ap suc (steered-stages left (suc i) _)
 
   pub steered-codes : (left i j : ℕ) → Codes (steered n d states left i j)
   unfolding steered
   steered-codes zero i j = tt
-  steered-codes (suc left) i j =
-      (link-code (bit i j) (bit i d) (states i j), steered-codes left (suc i) (lands n i (link (bit i j) (bit i d) (states i j)) j))
+  steered-codes (suc left) i j = (link-code (bit i j) (bit i d) (states i j), steered-codes left (suc i) _)
 
   -- at each stage the table chooses the link, for the switch that the walk has reached
   pub steered-follows : (left i j k : ℕ) → k < left →

@@ -26,8 +26,8 @@ state n tag i = bit (n + i) tag
 unfoldable pub steered : ℕ → ℕ → (ℕ → ℕ → ℕ) → ℕ → ℕ → ℕ → List ℕ
 steered n d states zero i j = []
 steered n d states (suc left) i j =
-    link (bit i j) (bit i d) (states i j)
-    ∷ steered n d states left (suc i) (lands n i (link (bit i j) (bit i d) (states i j)) j)
+    let c : ℕ = link (bit i j) (bit i d) (states i j) in
+    c ∷ steered n d states left (suc i) (lands n i c j)
 
 -- tag to steps: every switch of stage i has the state that the tag gives stage i. `tag-follows` and `follows-tag` say that
 -- these are the n codes, and the only ones, that the table chooses stage by stage (proofs/Steps.antt).
