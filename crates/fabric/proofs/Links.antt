@@ -2,7 +2,7 @@
 use mathlib.Core.Path.{_≡_, refl, sym, ap, _∙_}
 use mathlib.Core.Logic.{_⊎_, inl, inr, ⊎-elim, _↔_}
 use Prim.Native.Nat.{ℕ, zero, suc, _+_, _-_, _*_, _%_, _^_, _≤_, _<_}
-use native.Mathlib.Nat.{mod-lt, mod-eq-of-lt, mod-add-mod, mod-mod, pow-suc, add-mod-right, mul-add-mod-self-right, suc-mul}
+use native.Mathlib.Nat.{mod-lt, mod-eq-of-lt, mod-add-mod, add-mod-mod, mod-mod, pow-suc, add-mod-right, mul-add-mod-self-right, suc-mul}
 use native.Mathlib.Omega.{arith}
 use lib.Pow.{pow-pos, pow-mono, pow-add, high}
 use Rattle.fabric.specs.Labels.{size, bit, Agree}
@@ -31,6 +31,13 @@ lands-minus n i zero j h = absurd (omega arith)
 lands-minus n i (suc zero) j h = absurd (omega arith)
 lands-minus n i (suc (suc c)) j h = refl
 
+-- what is added modulo N and then what it lacks of N
+pub there-and-back : (n a b x : ℕ) → a + b ≡ size n → ((x + a) % size n + b) % size n ≡ x % size n
+there-and-back n a b x e =
+    mod-add-mod (x + a) (size n) b
+    ∙ ap (λ (y : ℕ). y % size n) {x = x + a + b} {y = x + size n} (omega arith)
+    ∙ add-mod-right x (size n)
+
 module _ (n i : ℕ) where
   pub lands-lt : (c j : ℕ) → j < size n → lands n i c j < size n
   lands-lt zero j h = h
@@ -45,43 +52,28 @@ module _ (n i : ℕ) (h : i < n) where
   pub straight-lands : (j : ℕ) → lands n i 0 j ≡ j
   straight-lands j = refl
 
+  -- N taken off once
+  taken-off : (x : ℕ) → size n ≤ x → x < size n + size n → x % size n + size n ≡ x
+  taken-off x more less =
+      let y : ℕ = x - size n in
+      let e : x % size n ≡ y = ap (λ (z : ℕ). z % size n) {x = x} {y = y + size n} (omega arith) ∙ add-mod-right y (size n) ∙ mod-eq-of-lt (omega arith) in
+      omega arith
+
   pub plus-lands : (j : ℕ) → j < size n → (j + 2 ^ i < size n → lands n i 1 j ≡ j + 2 ^ i) × (size n ≤ j + 2 ^ i → lands n i 1 j + size n ≡ j + 2 ^ i)
-  plus-lands j l = (
-    (λ less. mod-eq-of-lt less),
-    λ more.
-        let x : ℕ = j + 2 ^ i - size n in
-        let w = whole in
-        let e : lands n i 1 j ≡ x = ap (λ (y : ℕ). y % size n) {x = j + 2 ^ i} {y = x + size n} (omega arith) ∙ add-mod-right x (size n) ∙ mod-eq-of-lt (omega arith) in
-        omega arith,
-  )
+  plus-lands j l = (mod-eq-of-lt, λ more. let w = whole in taken-off (j + 2 ^ i) more (omega arith))
 
   pub minus-lands : (j : ℕ) → j < size n → (2 ^ i ≤ j → lands n i 2 j + 2 ^ i ≡ j) × (j < 2 ^ i → lands n i 2 j + 2 ^ i ≡ j + size n)
   minus-lands j l = (
-    (λ above.
-        let x : ℕ = j - 2 ^ i in
-        let w = whole in
-        let e : lands n i 2 j ≡ x = ap (λ (y : ℕ). y % size n) {x = j + (size n - 2 ^ i)} {y = x + size n} (omega arith) ∙ add-mod-right x (size n) ∙ mod-eq-of-lt (omega arith) in
-        omega arith),
-    λ below.
-        let w = whole in
-        let e : lands n i 2 j ≡ j + (size n - 2 ^ i) = mod-eq-of-lt (omega arith) in
-        omega arith,
+    (λ above. let w = whole in let e = taken-off (j + (size n - 2 ^ i)) (omega arith) (omega arith) in omega arith),
+    λ below. let w = whole in let e : lands n i 2 j ≡ j + (size n - 2 ^ i) = mod-eq-of-lt (omega arith) in omega arith,
   )
 
   -- minus and plus undo each other: minus takes off what plus adds
   pub minus-then-plus : (j : ℕ) → j < size n → lands n i 1 (lands n i 2 j) ≡ j
-  minus-then-plus j l =
-      mod-add-mod (j + (size n - 2 ^ i)) (size n) (2 ^ i)
-      ∙ ap (λ (x : ℕ). x % size n) {x = j + (size n - 2 ^ i) + 2 ^ i} {y = j + size n} (omega (arith, whole))
-      ∙ add-mod-right j (size n)
-      ∙ mod-eq-of-lt l
+  minus-then-plus j l = there-and-back n (size n - 2 ^ i) (2 ^ i) j whole ∙ mod-eq-of-lt l
 
   pub plus-then-minus : (j : ℕ) → j < size n → lands n i 2 (lands n i 1 j) ≡ j
-  plus-then-minus j l =
-      mod-add-mod (j + 2 ^ i) (size n) (size n - 2 ^ i)
-      ∙ ap (λ (x : ℕ). x % size n) {x = j + 2 ^ i + (size n - 2 ^ i)} {y = j + size n} (omega (arith, whole))
-      ∙ add-mod-right j (size n)
-      ∙ mod-eq-of-lt l
+  plus-then-minus j l = there-and-back n (2 ^ i) (size n - 2 ^ i) j (omega (arith, whole)) ∙ mod-eq-of-lt l
 
   -- "At stage n-1 plus and minus reach the same switch"
   pub last-stage-meets : suc i ≡ n → (j : ℕ) → lands n i 1 j ≡ lands n i 2 j
@@ -89,31 +81,33 @@ module _ (n i : ℕ) (h : i < n) where
       let d : size n ≡ 2 ^ i * 2 = ap (λ (m : ℕ). 2 ^ m) (sym e) ∙ pow-suc 2 i in
       ap (λ (x : ℕ). (j + x) % size n) {x = 2 ^ i} {y = size n - 2 ^ i} (omega arith)
 
-  -- plus and minus are alike in the low bits up to bit i
-  plus-low : (j : ℕ) → Agree (suc i) (lands n i 1 j) (j + 2 ^ i)
-  plus-low j = low-of-low (suc i) n (j + 2 ^ i) h
+  -- what plus and minus add is 2^i in the low bits up to bit i, so both turn bit i and keep the bits below it
+  plus-adds : 2 ^ i % 2 ^ suc i ≡ 2 ^ i
+  plus-adds = let d = pow-suc 2 i in let p = pow-pos i in mod-eq-of-lt (omega arith)
 
-  minus-low : (j : ℕ) → Agree (suc i) (lands n i 2 j) (j + 2 ^ i)
-  minus-low j =
+  minus-adds : (size n - 2 ^ i) % 2 ^ suc i ≡ 2 ^ i
+  minus-adds =
       let k : ℕ = n - suc i in
       let e : k + suc i ≡ n = omega arith in
       let p : size n ≡ 2 ^ k * 2 ^ suc i = ap (λ (m : ℕ). 2 ^ m) (sym e) ∙ pow-add 2 k (suc i) in
       let d = pow-suc 2 i in
-      let q : 0 < 2 ^ k = pow-pos k in
-      let g : 2 ^ k * 2 ^ suc i ≡ (2 ^ k - 1) * 2 ^ suc i + 2 ^ suc i = block (2 ^ k) (2 ^ suc i) q in
-      low-of-low (suc i) n (j + (size n - 2 ^ i)) h
-      ∙ ap (λ (x : ℕ). x % 2 ^ suc i) {x = j + (size n - 2 ^ i)} {y = (2 ^ k - 1) * 2 ^ suc i + (j + 2 ^ i)} (omega arith)
-      ∙ mul-add-mod-self-right (2 ^ k - 1) (2 ^ suc i) (j + 2 ^ i)
+      let g : 2 ^ k * 2 ^ suc i ≡ (2 ^ k - 1) * 2 ^ suc i + 2 ^ suc i = block (2 ^ k) (2 ^ suc i) (pow-pos k) in
+      ap (λ (x : ℕ). x % 2 ^ suc i) {x = size n - 2 ^ i} {y = (2 ^ k - 1) * 2 ^ suc i + 2 ^ i} (omega arith)
+      ∙ mul-add-mod-self-right (2 ^ k - 1) (2 ^ suc i) (2 ^ i)
+      ∙ plus-adds
     where
       block : (a b : ℕ) → 0 < a → a * b ≡ (a - 1) * b + b
       block zero b z = absurd (omega arith)
       block (suc a) b z = suc-mul a b ∙ ap (λ (x : ℕ). x * b + b) {x = a} {y = suc a - 1} (omega arith)
 
+  turns : (a j : ℕ) → a % 2 ^ suc i ≡ 2 ^ i → (j + a) % size n % 2 ^ suc i ≡ (1 - bit i j) * 2 ^ i + j % 2 ^ i
+  turns a j e = low-of-low (suc i) n (j + a) h ∙ sym (add-mod-mod j a (2 ^ suc i)) ∙ ap (λ (x : ℕ). (j + x) % 2 ^ suc i) e ∙ turned i j
+
   -- a nonstraight link turns bit i and keeps the bits below it
   pub nonstraight-low : (c j : ℕ) → 0 < c → lands n i c j % 2 ^ suc i ≡ (1 - bit i j) * 2 ^ i + j % 2 ^ i
   nonstraight-low zero j z = absurd (omega arith)
-  nonstraight-low (suc zero) j z = plus-low j ∙ turned i j
-  nonstraight-low (suc (suc c)) j z = minus-low j ∙ turned i j
+  nonstraight-low (suc zero) j z = turns (2 ^ i) j plus-adds
+  nonstraight-low (suc (suc c)) j z = turns (size n - 2 ^ i) j minus-adds
 
   -- a straight link keeps them all
   pub straight-low : (j : ℕ) → lands n i 0 j % 2 ^ suc i ≡ bit i j * 2 ^ i + j % 2 ^ i

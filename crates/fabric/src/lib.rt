@@ -40,22 +40,6 @@ pub fn bit_of(i: u8, j: u16) -> u8
     ((j >> i) % 2) as u8
 }
 
-// The label 2^i above j.
-fn plus(n: u8, i: u8, j: u16) -> u16
-    requires { ⌜ (n ≤ 12) × (i ≤ n) × (j < size n) ⌝ }
-    ensures { λ r. ⌜ r ≡ lands n i 1 j ⌝ }
-{
-    std::num::wrapping_add_u16(j, size(i)) % size(n)
-}
-
-// The label 2^i below j.
-fn minus(n: u8, i: u8, j: u16) -> u16
-    requires { ⌜ (n ≤ 12) × (i ≤ n) × (j < size n) ⌝ }
-    ensures { λ r. ⌜ r ≡ lands n i 2 j ⌝ }
-{
-    std::num::wrapping_sub_u16(j, size(i)) % size(n)
-}
-
 // Where the link of a code lands that leaves switch j at stage i.
 pub fn landing(n: u8, i: u8, code: u8, j: u16) -> u16
     requires { ⌜ (n ≤ 12) × (i ≤ n) × (j < size n) ⌝ }
@@ -65,7 +49,7 @@ pub fn landing(n: u8, i: u8, code: u8, j: u16) -> u16
         return j;
     }
     if code == 1 {
-        return plus(n, i, j);
+        return std::num::wrapping_add_u16(j, size(i)) % size(n);
     }
-    minus(n, i, j)
+    std::num::wrapping_sub_u16(j, size(i)) % size(n)
 }
