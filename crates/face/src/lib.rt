@@ -3,7 +3,7 @@
 use actions::ACTION_LENGTH;
 use actions::HEADER_LENGTH;
 use book::Book;
-use handed::book_of;
+use book_maker::book_of;
 use notices::Notice;
 use notices::Target;
 use packer::BYTE;
@@ -256,7 +256,7 @@ pub extern "C" fn tabashfar_action_part(sheet: &[u8], k: usize) -> u64
 pub extern "C" fn tabashfar_read_action(part: &[u8]) -> u64
     ensures { λ r. ⌜ Tells (ReadsAction (now (part .entry))) kindSays r ⌝ }
 {
-    fields::kind(action_bytes::read_action(part))
+    field_reader::kind(action_bytes::read_action(part))
 }
 
 // "otherwise the action with its fields": the seven of them at the front of the memory
@@ -264,7 +264,7 @@ pub extern "C" fn tabashfar_read_action(part: &[u8]) -> u64
 pub extern "C" fn tabashfar_action_fields(part: &[u8], memory: &mut [u16]) -> u64
     ensures { λ r. ⌜ ReadsFields (now (part .entry)) (now (memory .entry)) (now (memory .exit)) r ⌝ }
 {
-    fields::read_fields(part, memory)
+    field_reader::read_fields(part, memory)
 }
 
 // Runs a whole sheet and writes what it prints at the front of the memory.

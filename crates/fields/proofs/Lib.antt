@@ -1,6 +1,6 @@
 -- the fields of each action
 pub mod Fields
--- how the functions meet their promises
-pub mod Promises
+-- which of the checks are left once the action reader has answered
+pub mod Rooms
 -- no second answer
 pub mod Once

@@ -22,14 +22,19 @@ use Rattle.handed.specs.Books.{keptSays, HandsOver, HandsOver.makes, Han
 pub kept-says : (checks : List Check) (given made : Book) (k : Kept) → HandsBack checks given made k → keptSays k ≡ checked checks refused (Reply.accepted [])
 kept-says checks given made k h = h .says
 
+-- with 'done' comes the book after all the actions that the header counts
+pub handed-makes : (sheet : List ℕ) (b : Book) (n count : ℕ) → HandsOver sheet b Answer.Done → ReadsHeader sheet (Header.Sheet n count) → After sheet n count b
+handed-makes sheet b n count (makes {n = m} {count = k} reads after sound) again =
+    let e = header-once sheet (Header.Sheet m k) (Header.Sheet n count) reads again in
+    let size : m ≡ n = cc in
+    let number : k ≡ count = cc in
+    let made : After sheet m k b = after in
+    rw (size, number) at made
+
 -- a sheet hands over one book with one answer
 pub handed-once : (sheet : List ℕ) (b c : Book) (p q : Answer) → HandsOver sheet b p → HandsOver sheet c q → (b ≡ c) × (p ≡ q)
-handed-once sheet b c p q (makes {n = n} {count = k} reads after sound) (makes {n = m} {count = j} again later sounds) =
-    let e = header-once sheet (Header.Sheet n k) (Header.Sheet m j) reads again in
-    let size : n ≡ m = cc in
-    let count : k ≡ j = cc in
-    let first : After sheet n k b = after in
-    (after-once sheet m j b c (rw (size, count) at first) later, refl)
+handed-once sheet b c p q (makes reads after sound) (makes {n = m} {count = j} again later sounds) =
+    (after-once sheet m j b c (handed-makes sheet b m j (makes reads after sound) again) later, refl)
 handed-once sheet b c p q (makes {n = n} {count = k} reads after sound) (refuses {why = why} again size) =
     let e = header-once sheet (Header.Sheet n k) (Header.Refused why) reads again in
     absurd (zero-one cc)

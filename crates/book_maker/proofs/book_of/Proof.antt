@@ -2,9 +2,9 @@
 use mathlib.Core.Path.{refl}
 use borrow.Author.Needs.{needs}
 use Rattle.sheet.proofs.Promises.{header-sizes}
 use Rattle.handed.proofs.Overs.{hands-book, hands-none}
-use Rattle.handed.proofs.book_of.Statement.{statement}
-use Rattle.handed.proofs.book_of.Tie as tie
+use Rattle.book_maker.proofs.book_of.Statement.{statement}
+use Rattle.book_maker.proofs.book_of.Tie as tie
 
 read-header-requires : tie.Need-read-header-requires
 read-header-requires c κs = search needs

@@ -1,8 +1,8 @@
 -- What the entry of the action hands back.
 use borrow.Author.Needs.{needs}
 use Rattle.changes.proofs.After.{files-leave, withdraws-leave, nothing-changes}
-use Rattle.handed.proofs.after_one.Statement.{statement}
-use Rattle.handed.proofs.after_one.Tie as tie
+use Rattle.book_maker.proofs.after_one.Statement.{statement}
+use Rattle.book_maker.proofs.after_one.Tie as tie
 
 enum-known-action : tie.Need-enum-known-action
 enum-known-action c = search needs

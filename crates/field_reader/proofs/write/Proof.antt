@@ -4,10 +4,10 @@ use native.Mathlib.Omega.{arith}
 use lib.ListN.{length-set}
 use lib.Seq.{sets-eq}
 use Rattle.actions.specs.Format.{fieldsOf}
 use Rattle.fields.specs.Fields.{inOrder}
 use borrow.Author.Needs.{needs}
-use Rattle.fields.proofs.write.Statement.{statement}
-use Rattle.fields.proofs.write.Tie as tie
+use Rattle.field_reader.proofs.write.Statement.{statement}
+use Rattle.field_reader.proofs.write.Tie as tie
 
 shared-slice-read-wide : tie.Need-shared-slice-read-wide
 shared-slice-read-wide c = search needs

@@ -1,9 +1,9 @@
 -- Too little room, or the fields written and the first byte as the value.
 use native.Mathlib.Omega.{arith}
-use Rattle.fields.proofs.Promises.{room-short, room-enough}
+use Rattle.field_reader.proofs.Writing.{room-short, room-enough}
 use borrow.Author.Needs.{needs}
-use Rattle.fields.proofs.written.Statement.{statement}
-use Rattle.fields.proofs.written.Tie as tie
+use Rattle.field_reader.proofs.written.Statement.{statement}
+use Rattle.field_reader.proofs.written.Tie as tie
 
 refused-requires : tie.Need-refused-requires
 refused-requires c κs = search needs

@@ -6,8 +6,8 @@ use mathlib.Core.Path.{_≡_}
 use borrow.Author.Needs.{needs}
 use Rattle.changes.specs.After.{After}
 use Rattle.changes.proofs.After.{after-none, after-more, after-sound}
-use Rattle.handed.proofs.after_all.Statement.{statement}
-use Rattle.handed.proofs.after_all.Tie as tie
+use Rattle.book_maker.proofs.after_all.Statement.{statement}
+use Rattle.book_maker.proofs.after_all.Tie as tie
 
 abbrev Inv-loop : tie.InvT-loop
 Inv-loop sheet n count book₀ k₀ book k = (k ≤ count) × After sheet n k book

@@ -1,8 +1,8 @@
 -- The fields of a part that the action reader accepts, or its refusal.
-use Rattle.fields.proofs.Promises.{part-of-ten, fields-accepted, fields-refused}
+use Rattle.field_reader.proofs.Writing.{part-of-ten, fields-accepted, fields-refused}
 use borrow.Author.Needs.{needs}
-use Rattle.fields.proofs.read_fields.Statement.{statement}
-use Rattle.fields.proofs.read_fields.Tie as tie
+use Rattle.field_reader.proofs.read_fields.Statement.{statement}
+use Rattle.field_reader.proofs.read_fields.Tie as tie
 
 read-action-requires : tie.Need-read-action-requires
 read-action-requires c κs = search needs

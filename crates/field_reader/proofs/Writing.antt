@@ -8,24 +8,14 @@ use lib.ListN.{length, drop, getD}
 use Rattle.table.specs.declared.Refusal.{Refusal}
 use Rattle.table.specs.Numbers.{numberOf}
 use Rattle.table.specs.Reply.{Reply.accepted, refused}
-use Rattle.table.specs.Checks.{Check, checked, Given, Passed, Passed.none, Passed.passes}
-use Rattle.table.proofs.Checks.{given-refuses, accepted-passed, refused-given, passed-nth, given-before}
+use Rattle.table.proofs.Checks.{passed-nth}
 use Rattle.packing.specs.Packed.{packed}
 use Rattle.actions.specs.declared.Action.{Action}
-use Rattle.actions.specs.Format.{IsAction, fieldsOf, bytesOf}
+use Rattle.actions.specs.Format.{IsAction, fieldsOf}
 use Rattle.actions.specs.Entries.{actionChecks, ReadsAction}
-use Rattle.fields.specs.Fields.{inOrder, roomCheck, fieldsChecks, ReadsFields}
-use Rattle.fields.specs.Written.{FieldsWritten}
-
--- checks that are passed leave those after them
-passed-leaves {ℓ} : {A : Type ℓ} (refuse : ℕ → A) (accept : A) (cs ds : List Check) → Passed cs → checked (cs ++ ds) refuse accept ≡ checked ds refuse accept
-passed-leaves refuse accept [] ds none = refl
-passed-leaves refuse accept (c ∷ cs) ds (passes h p) = rw h (passed-leaves refuse accept cs ds p)
-
-action-passed : (part : List ℕ) (a : Action) → IsAction a → ReadsAction part a → Passed (actionChecks part)
-action-passed part (Action.File x) i r = accepted-passed (actionChecks part) part (bytesOf (Action.File x)) (r .says)
-action-passed part (Action.Withdraw k) i r = accepted-passed (actionChecks part) part (bytesOf (Action.Withdraw k)) (r .says)
-action-passed part (Action.Route s d) i r = accepted-passed (actionChecks part) part (bytesOf (Action.Route s d)) (r .says)
+use Rattle.fields.specs.Fields.{inOrder, ReadsFields}
+use Rattle.fields.proofs.Rooms.{action-passed, room-left, nothing-left}
+use Rattle.field_reader.specs.Written.{FieldsWritten}
 
 module _ {part : List ℕ} {a : Action} where
   pub part-of-ten : (b : Action) → IsAction b → ReadsAction part a → a ≡ b → length part ≡ 10
@@ -34,19 +24,18 @@ module _ {part : List ℕ} {a : Action} where
 
   pub fields-accepted : {before after : List ℕ} {k : ℕ} (b : Action) → IsAction b → ReadsAction part a → a ≡ b → FieldsWritten part before after k → ReadsFields part before after k
   fields-accepted {before} b i r e w =
-      let p = action-passed part b i (rw e at r) in
+      let q : ReadsAction part b = rw e at r in
       record {
-        says = w .says ∙ ap packed (sym (passed-leaves refused (accepted (getD part 0 0 ∷ [])) (actionChecks part) (roomCheck before) p));
-        leaves = w .leaves ∙ sym (passed-leaves (λ k. before) (inOrder (fieldsOf part) ++ drop 7 before) (actionChecks part) (roomCheck before) p);
+        says = w .says ∙ ap packed (sym (room-left part before refused (accepted (getD part 0 0 ∷ [])) b i q));
+        leaves = w .leaves ∙ sym (room-left part before (λ k. before) (inOrder (fieldsOf part) ++ drop 7 before) b i q);
       }
 
   pub fields-refused : {before : List ℕ} {k : ℕ} {why : Refusal} → ReadsAction part a → a ≡ Action.Refused why → k ≡ numberOf why → ReadsFields part before before k
   fields-refused {before} {k} {why} r e n =
       let q : ReadsAction part (Action.Refused why) = rw e at r in
-      let g : Given (numberOf why) (fieldsChecks part before) = given-before (actionChecks part) (roomCheck before) (refused-given (actionChecks part) part (numberOf why) (q .says)) in
       record {
-        says = n ∙ ap packed (sym (given-refuses refused (accepted (getD part 0 0 ∷ [])) (numberOf why) (fieldsChecks part before) g));
-        leaves = sym (given-refuses (λ k. before) (inOrder (fieldsOf part) ++ drop 7 before) (numberOf why) (fieldsChecks part before) g);
+        says = n ∙ ap packed (sym (nothing-left part before refused (accepted (getD part 0 0 ∷ [])) why q));
+        leaves = sym (nothing-left part before (λ k. before) (inOrder (fieldsOf part) ++ drop 7 before) why q);
       }
 
 -- with room for seven fields, and without

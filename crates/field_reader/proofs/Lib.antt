@@ -1,0 +1,2 @@
+-- how the functions meet their promises
+pub mod Writing
