@@ -1,6 +1,10 @@
 // Document 01, 'The sheet and what is printed': running a sheet, from its bytes to the bytes printed.
+use actions::Action;
 use book::Book;
-use lines::action_line;
+use lines::fault_line;
+use lines::file_line;
+use lines::route_line;
+use lines::withdraw_line;
 use printed::ACTION_ROOM;
 use printed::FIRST_LINE_ROOM;
 use printed::Ran;
@@ -70,9 +74,30 @@ fn lines(sheet: &[u8], n: u8, count: u16, out: &mut [u8], at: usize) -> usize
     let mut k: usize = 0;
     while k < count as usize {
         let part = sheet_reader::action_part(sheet, k);
-        let told = action_line(n, book, part, out, next);
-        book = told.book;
-        next = told.at;
+        match action_bytes::read_action(part) {
+            Action::File(notice) => {
+                let kept = book.filed(notice);
+                let answer = kept.answer;
+                next = file_line(notice.number, answer, out, next);
+                book = kept.book;
+            }
+            Action::Withdraw(number) => {
+                let kept = book.withdrawn(number);
+                let answer = kept.answer;
+                next = withdraw_line(number, answer, out, next);
+                book = kept.book;
+            }
+            Action::Route {
+                source,
+                destination,
+            } => {
+                let found = router::routed(book, source, destination);
+                next = route_line(n, source, destination, found, out, next);
+            }
+            Action::Refused(why) => {
+                next = fault_line(why, out, next);
+            }
+        }
         k += 1;
     }
     next

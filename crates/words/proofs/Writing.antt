@@ -5,7 +5,7 @@ use Prim.Native.Nat.{ℕ, _+_, _≤_, _<_}
 use native.Mathlib.Nat.{add-zero, zero-add}
 use native.Mathlib.Numerals.{add-one}
 use native.Mathlib.Omega.{arith}
-use lib.ListN.{length, take, drop, set, length-append}
+use lib.ListN.{length, take, drop, set, length-append, length-drop}
 use lib.Seq.{paste, paste-zero, take-all, take-at, drop-append-add, drop-drop, length-take-le, append-snoc, set-split}
 use Rattle.words.specs.Wrote.{Wrote}
 
@@ -58,6 +58,14 @@ module _ (before : List ℕ) (at : ℕ) (fits : at ≤ length before) where
             ∙ ap₂ (λ (x : List ℕ) (k : ℕ). take at before ++ x ++ drop (at + k) before) (take-all n text (omega arith)) l;
         ends = omega arith;
       }
+
+  -- a text within the memory leaves it as long as it was
+  pub wrote-length : {text after : List ℕ} {next : ℕ} → Wrote before at text after next → next ≤ length before → length after ≡ length before
+  wrote-length {text} w within =
+      let front = ahead text in
+      let rest = length-drop (at + length text) before in
+      let ends = w .ends in
+      ap length (w .leaves) ∙ length-append (take at before ++ text) (drop (at + length text) before) ∙ omega arith
 
 -- a text written at the front
 pub wrote-front : {before text after : List ℕ} {next : ℕ} → Wrote before 0 text after next → after ≡ text ++ drop (length text) before

@@ -1,9 +1,7 @@
--- The word and the refusal, one after the other; the book stays.
-use mathlib.Core.Path.{refl}
+-- The word and the refusal, one after the other.
 use native.Mathlib.Omega.{arith}
 use borrow.Author.Needs.{needs}
 use Rattle.words.proofs.Writing.{wrote-more}
-use Rattle.changes.proofs.After.{nothing-changes}
 use Rattle.lines.proofs.fault_line.Statement.{statement}
 use Rattle.lines.proofs.fault_line.Tie as tie
 
@@ -20,17 +18,11 @@ same-length : tie.Need-same-length
 same-length c = search needs
 
 returns : tie.Need-returns
-returns c n =
+returns c =
     let a = c .before .before .before .before .before .before .before .before .before .before .args in
     let first = c .before .before .before .before .before .before .word in
     let end = c .before .before .refusal-told in
-    record {
-      text = _;
-      tells = refl;
-      leaves = nothing-changes (a .book);
-      wrote = wrote-more (a .out .now) (a .at) (omega arith) (first .ensures) (end .ensures .0);
-      short = omega arith;
-    }
+    (wrote-more (a .out .now) (a .at) (omega arith) (first .ensures) (end .ensures .0), omega arith)
 
 pub fault-line-spec : {M : Type 1} → statement M
 fault-line-spec =

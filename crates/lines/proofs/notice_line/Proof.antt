@@ -1,5 +1,4 @@
--- The word, the number and the answer, one after the other; the book is the one that the entry handed back.
-use mathlib.Core.Path.{refl}
+-- The word, the number and the answer, one after the other.
 use native.Mathlib.Omega.{arith}
 use borrow.Author.Needs.{needs}
 use Rattle.words.proofs.Writing.{wrote-more}
@@ -20,18 +19,14 @@ same-length c = search needs
 
 returns : tie.Need-returns
 returns c =
-    let a = c .before .before .before .before .before .before .before .before .before .before .before .before .before .before .before .args in
-    let room = c .before .before .before .before .before .before .before .before .before .before .before .before .before .before .before .pre in
+    let a = c .before .before .before .before .before .before .before .before .before .before .before .before .before .before .args in
+    let room = c .before .before .before .before .before .before .before .before .before .before .before .before .before .before .pre in
     let first = c .before .before .before .before .before .before .before .before .before .before .word in
     let digits = c .before .before .before .before .before .before .number in
     let end = c .before .before .answer-told in
     let ends = first .ensures .ends in
     let kept = first .kept .0 in
-    record {
-      wrote = wrote-more (a .out .now) (a .at) (omega arith) (first .ensures) (wrote-more (first .last .0) (first .result) (omega arith) (digits .ensures .0) (end .ensures .0));
-      keeps = refl;
-      short = omega arith;
-    }
+    (wrote-more (a .out .now) (a .at) (omega arith) (first .ensures) (wrote-more (first .last .0) (first .result) (omega arith) (digits .ensures .0) (end .ensures .0)), omega arith)
 
 pub notice-line-spec : {M : Type 1} → statement M
 notice-line-spec =

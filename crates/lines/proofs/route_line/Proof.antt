@@ -1,14 +1,9 @@
--- The word, the two labels and the answer, one after the other; the book stays.
-use mathlib.Core.Path.{refl}
+-- The word, the two labels and the answer, one after the other.
 use native.Mathlib.Omega.{arith}
 use borrow.Author.Needs.{needs}
 use Rattle.words.proofs.Writing.{wrote-more}
-use Rattle.changes.proofs.After.{nothing-changes}
 use Rattle.lines.proofs.route_line.Statement.{statement}
 use Rattle.lines.proofs.route_line.Tie as tie
-
-routed-requires : tie.Need-routed-requires
-routed-requires c κs = search needs
 
 slice-aggregate-word : tie.Need-slice-aggregate-word
 slice-aggregate-word c = search needs
@@ -36,14 +31,13 @@ same-length c = search needs
 
 returns : tie.Need-returns
 returns c =
-    let a = c .before .before .before .before .before .before .before .before .before .before .before .before .before .before .before .before .before .before .before .before .before .before .before .before .args in
-    let found = c .before .before .before .before .before .before .before .before .before .before .before .before .before .before .before .before .before .before .before .before .before .before .routed in
+    let a = c .before .before .before .before .before .before .before .before .before .before .before .before .before .before .before .before .before .before .before .before .before .before .before .args in
     let first = c .before .before .before .before .before .before .before .before .before .before .before .before .before .before .before .before .before .before .before .word in
     let from = c .before .before .before .before .before .before .before .before .before .before .before .before .before .before .before .number in
     let blank = c .before .before .before .before .before .before .before .before .before .before .word2 in
     let to = c .before .before .before .before .before .before .number2 in
     let end = c .before .before .found-told in
-    let room = c .before .before .before .before .before .before .before .before .before .before .before .before .before .before .before .before .before .before .before .before .before .before .before .before .pre in
+    let room = c .before .before .before .before .before .before .before .before .before .before .before .before .before .before .before .before .before .before .before .before .before .before .before .pre in
     let ends = first .ensures .ends in
     let kept = first .kept .0 in
     let ends2 = from .ensures .1 in
@@ -53,19 +47,12 @@ returns c =
     let rest = wrote-more (blank .last .0) (blank .result) (omega arith) (to .ensures .0) (end .ensures .0) in
     let tail = wrote-more (from .last .0) (from .result) (omega arith) (blank .ensures) rest in
     let numbers = wrote-more (first .last .0) (first .result) (omega arith) (from .ensures .0) tail in
-    record {
-      text = _;
-      tells = (found .result, found .ensures, refl);
-      leaves = nothing-changes (a .book);
-      wrote = wrote-more (a .out .now) (a .at) (omega arith) (first .ensures) numbers;
-      short = omega arith;
-    }
+    (wrote-more (a .out .now) (a .at) (omega arith) (first .ensures) numbers, omega arith)
 
 pub route-line-spec : {M : Type 1} → statement M
 route-line-spec =
     tie.close
     (tie.spec
-    routed-requires
     slice-aggregate-word
     word-requires
     number-requires

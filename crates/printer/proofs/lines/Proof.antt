@@ -1,16 +1,19 @@
 -- After k turns the lines of the first k actions lie in their places, and the book is the one after them.
 use mathlib.Core.Path.{_≡_, refl, _∙_}
-use mathlib.Core.List.{[], _++_}
+use mathlib.Core.Logic.{⊎-elim}
+use mathlib.Core.List.{[]}
 use Prim.Native.Nat.{_+_, _-_, _*_, _≤_}
 use native.Mathlib.Omega.{arith}
 use native.Mathlib.Numerals.{add-one}
 use borrow.Author.Needs.{needs}
 use lib.ListN.{length}
-use Rattle.printed.specs.Runs.{Lines.start, Lines.more}
-use Rattle.printer.specs.Written.{LinesWritten}
+use Rattle.sheet.specs.Entries.{partOf}
+use Rattle.printed.specs.Runs.{Lines.start}
+use Rattle.printer.specs.Written.{LinesWritten, LineWritten}
 use Rattle.changes.specs.After.{After}
-use Rattle.changes.proofs.After.{after-none, after-more, after-sound}
-use Rattle.words.proofs.Writing.{wrote-more, wrote-none}
+use Rattle.changes.proofs.After.{after-none, after-sound, files-leave, withdraws-leave, nothing-changes}
+use Rattle.words.proofs.Writing.{wrote-none, wrote-length}
+use Rattle.printer.proofs.Turns.{line-told, lines-more, left-after}
 use Rattle.printer.proofs.lines.Statement.{statement}
 use Rattle.printer.proofs.lines.Tie as tie
 
@@ -33,11 +36,41 @@ loop-holds c =
 action-part-requires : tie.Need-action-part-requires Inv-loop μ-loop
 action-part-requires c κs = search needs
 
-action-line-requires : tie.Need-action-line-requires Inv-loop μ-loop
-action-line-requires c κs =
-    let entry = c .before .before .before .before .before .before .before .before in
-    let v = c .before .before .before .loop in
-    (search needs, after-sound (entry .pre .0) (entry .pre .1) (v .inv .3), search needs)
+read-action-requires : tie.Need-read-action-requires Inv-loop μ-loop
+read-action-requires c κs = search needs
+
+enum-known-notice : tie.Need-enum-known-notice Inv-loop μ-loop
+enum-known-notice c = search needs
+
+filed-requires : tie.Need-filed-requires Inv-loop μ-loop
+filed-requires c κs = let a = c .before .before .before .before .before .before .before .before .before .before .before in after-sound (a .pre .0) (a .pre .1) (c .before .before .before .before .before .before .loop .inv .3)
+
+file-line-requires : tie.Need-file-line-requires Inv-loop μ-loop
+file-line-requires c κs = search needs
+
+enum-known-number : tie.Need-enum-known-number Inv-loop μ-loop
+enum-known-number c = search needs
+
+withdrawn-requires : tie.Need-withdrawn-requires Inv-loop μ-loop
+withdrawn-requires c κs = let a = c .before .before .before .before .before .before .before .before .before .before .before in after-sound (a .pre .0) (a .pre .1) (c .before .before .before .before .before .before .loop .inv .3)
+
+withdraw-line-requires : tie.Need-withdraw-line-requires Inv-loop μ-loop
+withdraw-line-requires c κs = search needs
+
+enum-known-source : tie.Need-enum-known-source Inv-loop μ-loop
+enum-known-source c = search needs
+
+routed-requires : tie.Need-routed-requires Inv-loop μ-loop
+routed-requires c κs = let a = c .before .before .before .before .before .before .before .before .before .before .before in after-sound (a .pre .0) (a .pre .1) (c .before .before .before .before .before .before .loop .inv .3)
+
+route-line-requires : tie.Need-route-line-requires Inv-loop μ-loop
+route-line-requires c κs = search needs
+
+enum-known-why : tie.Need-enum-known-why Inv-loop μ-loop
+enum-known-why c = search needs
+
+fault-line-requires : tie.Need-fault-line-requires Inv-loop μ-loop
+fault-line-requires c κs = search needs
 
 add-k : tie.Need-add-k Inv-loop μ-loop
 add-k c = search needs
@@ -47,21 +80,21 @@ loop-less c = search needs
 
 loop-again : tie.Need-loop-again Inv-loop μ-loop
 loop-again c =
-    let a = c .before .before .before .before .before .before .before .before .before .before .before .before .args in
-    let v = c .before .before .before .before .before .before .before .loop in
-    let w = v .inv .1 in
-    let part = c .before .before .before .before .before .action-part in
-    let l = c .before .before .before .action-line .ensures in (
-      omega arith,
-      record {
-        text = w .text ++ l .text;
-        tells = rw add-one (more (w .tells) (v .inv .3) (rw (part .ensures .0) at (l .tells)));
-        wrote = wrote-more (a .out .now) (a .at) (omega arith) (w .wrote) (l .wrote);
-        short = let s = l .short in let i = w .short in omega arith;
-      },
-      c .before .before .before .action-line .kept .1 .1 .1 .0 ∙ v .inv .2,
-      rw (l .leaves, add-one) (after-more (v .inv .3) (rw (part .ensures .0) at (l .tells .reads))),
-    )
+    let a = c .before .before .before .before .before .before .before .before .before .args in
+    let v = c .before .before .before .before .loop in
+    let reads = rw (c .before .before .action-part .ensures .0) at (c .before .read-action .ensures) in
+    let line : LineWritten (a .n) (v .book) (partOf (a .sheet .now) (v .k)) (v .out) (v .next) (c .match .book) (c .match .out) (c .match .next) =
+    ⊎-elim
+    (λ w. rw (w .9, w .10, w .11) (line-told reads (w .1 .given .1) (w .3 .result, w .3 .ensures, refl) (files-leave (v .book) _ (w .3 .result) (w .3 .ensures)) (w .5 .ensures)))
+    (⊎-elim
+    (λ w. rw (w .9, w .10, w .11) (line-told reads (w .1 .given .1) (w .3 .result, w .3 .ensures, refl) (withdraws-leave (v .book) _ (w .3 .result) (w .3 .ensures)) (w .5 .ensures)))
+    (⊎-elim
+    (λ w. rw (w .8, w .9, w .10) (line-told reads (w .1 .given .1) (w .3 .result, w .3 .ensures, refl) (nothing-changes (v .book)) (w .5 .ensures)))
+    (λ w. rw (w .7, w .8, w .9) (line-told reads (w .1 .given .1) refl (nothing-changes (v .book)) (w .4 .ensures)))))
+    (c .match .came) in
+    let lines = lines-more (v .inv .3) (omega arith) (v .inv .1) line in
+    let short = lines .short in
+    (omega arith, rw add-one lines, wrote-length (a .out .now) (a .at) (omega arith) (lines .wrote) (omega arith), rw add-one (left-after (v .inv .3) line))
 
 same-length : tie.Need-same-length Inv-loop μ-loop
 same-length c = c .before .loop .inv .2
@@ -81,7 +114,18 @@ lines-spec =
     open-requires
     loop-holds
     action-part-requires
-    action-line-requires
+    read-action-requires
+    enum-known-notice
+    filed-requires
+    file-line-requires
+    enum-known-number
+    withdrawn-requires
+    withdraw-line-requires
+    enum-known-source
+    routed-requires
+    route-line-requires
+    enum-known-why
+    fault-line-requires
     add-k
     loop-less
     loop-again

@@ -1,2 +1,0 @@
--- the line of the action that was read
-pub mod Reading
