@@ -25,5 +25,5 @@ pub fn cross(n: u8, source: u16, destination: u16, stops: Stops) -> Found
         }
         i += 1;
     }
-    Found::Tag(scheme::joined(n, destination, frontier::first_states(n, front)))
+    Found::Tag(scheme::tag_of(n, destination, frontier::first_states(n, front)))
 }

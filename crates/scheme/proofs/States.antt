@@ -73,8 +73,8 @@ module _ (n : ℕ) where
       ∙ ap (λ (p : ℕ). stateFor (bit p (walked n (suc i) (lands n i c j) (take k cs))) (getD cs k 0)) {x = suc i + k} {y = i + suc k} (omega arith)
 
 -- a destination and states below it fit 32 bits
-pub joined-fits : (n destination states : ℕ) → n ≤ 12 → destination < size n → states < size n → destination + states * 2 ^ n % 2 ^ 32 < 2 ^ 32
-joined-fits n destination states h hd hs =
+pub tag-fits : (n destination states : ℕ) → n ≤ 12 → destination < size n → states < size n → destination + states * 2 ^ n % 2 ^ 32 < 2 ^ 32
+tag-fits n destination states h hd hs =
     let p : 2 ^ (n + n) ≤ 2 ^ 24 = pow-mono {i = n + n} {j = 24} (omega arith) in
     let q : 2 ^ n ≤ 2 ^ 12 = pow-mono {j = 12} h in
     let l : states * 2 ^ n < 2 ^ (n + n) = shl-lt n n hs in

@@ -77,7 +77,7 @@ pub fn state_bit(state: u8, i: u8) -> u32
 }
 
 // The tag of a destination and a number that holds the states.
-pub fn joined(n: u8, destination: u16, states: u32) -> u32
+pub fn tag_of(n: u8, destination: u16, states: u32) -> u32
     requires { ⌜ (n ≤ 12) × (destination < size n) × (states < size n) ⌝ }
     ensures { λ r. ⌜ r ≡ destination + size n * states ⌝ }
 {

@@ -1,7 +1,7 @@
 // Document 01, 'steps to tag'.
-use scheme::joined;
 use scheme::state_bit;
 use scheme::state_for;
+use scheme::tag_of;
 use table::Refusal;
 use tags::Tag;
 ghost use mathlib.Core.Path.{_≡_};
@@ -43,7 +43,7 @@ pub fn read_steps(n: u8, source: u16, memory: &[u8]) -> u32
         j = fabric::landing(n, i, code, j);
         i += 1;
     }
-    joined(n, j, states)
+    tag_of(n, j, states)
 }
 
 // Document 01, 'steps to tag': 1, 10, 13, 12.

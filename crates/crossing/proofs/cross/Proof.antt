@@ -109,15 +109,15 @@ loop-again c =
 first-states-requires : tie.Need-first-states-requires Inv-loop μ-loop
 first-states-requires c κs = search needs
 
-joined-requires : tie.Need-joined-requires Inv-loop μ-loop
-joined-requires c κs = search needs
+tag-of-requires : tie.Need-tag-of-requires Inv-loop μ-loop
+tag-of-requires c κs = search needs
 
 returns-2 : tie.Need-returns-2 Inv-loop μ-loop
 returns-2 c = λ rule under.
     let a = c .before .before .before .before .before .before .args in
     let v = c .before .before .before .loop in
     found-ahead (a .n) rule (a .source) (a .destination) (search needs) (search needs) (v .i) _ (omega arith) (v .front) (v .inv .holds rule under) (v .inv .reached)
-    (c .joined .ensures ∙ ap (λ (x : ℕ). a .destination + size (a .n) * x) (c .before .first-states .ensures .0))
+    (c .tag-of .ensures ∙ ap (λ (x : ℕ). a .destination + size (a .n) * x) (c .before .first-states .ensures .0))
 
 pub cross-spec : {M : Type 1} → statement M
 cross-spec =
@@ -137,5 +137,5 @@ cross-spec =
     loop-less
     loop-again
     first-states-requires
-    joined-requires
+    tag-of-requires
     returns-2)

@@ -63,8 +63,8 @@ loop-again c =
     let on = collects (a .n) (a .source) (a .memory .now) (v .i) (v .j) (v .states) (v .inv .1) _ _ _ (omega arith) (v .inv .3) (v .inv .4) (c .before .before .before .bit-of .ensures .0) (c .before .before .state-for .ensures .0) (c .before .state-bit .ensures) in
     (omega arith, v .inv .1, c .landing .ensures .1, c .landing .ensures .0 ∙ on .0, on .1)
 
-joined-requires : tie.Need-joined-requires Inv-loop μ-loop
-joined-requires c κs =
+tag-of-requires : tie.Need-tag-of-requires Inv-loop μ-loop
+tag-of-requires c κs =
     let a = c .before .before .before .args in
     let v = c .before .loop in
     (search needs, search needs, collected (a .n) (a .source) (a .memory .now) (v .i) (v .j) (v .states) (v .inv .1) (omega arith) (v .inv .3) (v .inv .4) .0)
@@ -73,7 +73,7 @@ returns : tie.Need-returns Inv-loop μ-loop
 returns c =
     let a = c .before .before .before .before .args in
     let v = c .before .before .loop in
-    c .joined .ensures ∙ collected (a .n) (a .source) (a .memory .now) (v .i) (v .j) (v .states) (v .inv .1) (omega arith) (v .inv .3) (v .inv .4) .1
+    c .tag-of .ensures ∙ collected (a .n) (a .source) (a .memory .now) (v .i) (v .j) (v .states) (v .inv .1) (omega arith) (v .inv .3) (v .inv .4) .1
 
 pub read-steps-spec : {M : Type 1} → statement M
 read-steps-spec =
@@ -92,5 +92,5 @@ read-steps-spec =
     add-i
     loop-less
     loop-again
-    joined-requires
+    tag-of-requires
     returns)

@@ -5,20 +5,20 @@ use native.Mathlib.Nat.{mul-comm}
 use native.Mathlib.Omega.{arith}
 use borrow.Author.Needs.{needs}
 use lib.Pow.{shl-exact}
-use Rattle.scheme.proofs.States.{joined-fits}
-use Rattle.scheme.proofs.joined.Statement.{statement}
-use Rattle.scheme.proofs.joined.Tie as tie
+use Rattle.scheme.proofs.States.{tag-fits}
+use Rattle.scheme.proofs.tag_of.Statement.{statement}
+use Rattle.scheme.proofs.tag_of.Tie as tie
 
 shl-result : tie.Need-shl-result
 shl-result c = search needs
 
 add-result : tie.Need-add-result
-add-result c = record { fits = joined-fits (c .args .n) (c .args .destination) (c .args .states) (search needs) (search needs) (search needs) }
+add-result c = record { fits = tag-fits (c .args .n) (c .args .destination) (c .args .states) (search needs) (search needs) (search needs) }
 
 returns : tie.Need-returns
 returns c =
     let a = c .args in
     ap (λ (x : ℕ). a .destination + x) (shl-exact (a .n) (a .n) 32 (search needs) (omega arith) ∙ mul-comm (a .states) (2 ^ a .n))
 
-pub joined-spec : {M : Type 1} → statement M
-joined-spec = tie.close (tie.spec shl-result add-result returns)
+pub tag-of-spec : {M : Type 1} → statement M
+tag-of-spec = tie.close (tie.spec shl-result add-result returns)
