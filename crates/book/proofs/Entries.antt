@@ -1,7 +1,7 @@
 -- What the entries' definitions say: the order of each entry's checks and what passes them, what the answers say, and which book
 -- is handed back.
 use mathlib.Core.Path.{_≡_, refl, sym, ap, _∙_}
-use mathlib.Core.Bool.{Bool, true, false, not, _||_, true≢false}
+use mathlib.Core.Bool.{Bool, true, false, not, true≢false}
 use mathlib.Core.List.{List, [], _∷_, List·Memᴰ}
 use mathlib.Core.Logic.{_⊎_, inl, inr, ⊎-elim, _↔_}
 use Prim.Native.Nat.{ℕ, zero, suc, _≤_, _<_}
@@ -15,7 +15,8 @@ use Rattle.table.specs.Checks.{Check, Given, Given.here, Given.later, Passed, P
 use Rattle.table.proofs.Checks.{given-refuses, passed-accepts, accepted-passed, refused-given, passed-nth, neither, neither-of}
 use Rattle.fabric.specs.Labels.{outsideSizes}
 use Rattle.notices.specs.declared.Notice.{Notice}
-use Rattle.notices.specs.Targets.{outsideFabric, badField, tooWide, unfit}
+use Rattle.notices.specs.Notices.{outsideFabric, badField, tooWide, unfit}
+use Rattle.notices.proofs.Fit.{all-pass}
 use Rattle.book.specs.declared.Book.{Book}
 use Rattle.book.specs.declared.Kept.{Kept}
 use Rattle.table.specs.declared.Answer.{Answer}
@@ -69,7 +70,7 @@ module _ (b : Book) (x : Notice) where
 
   -- 3: "notice number 0"; 4, 5 and 6 as a notice's target is judged; 7: "number already stands"; 8: "48 stand already"
   pub file-lets-pass : Passed (fileChecks b x)
-      ↔ ((unsound b ≡ false) × (1 ≤ x .number) × (outsideFabric (b .n) (x .target) ≡ false) × (badField (b .n) (x .target) ≡ false) × (tooWide (x .target) ≡ false)
+      ↔ ((unsound b ≡ false) × (1 ≤ x .number) × (outsideFabric (b .n) x ≡ false) × (badField (b .n) x ≡ false) × (tooWide x ≡ false)
       × (HasNumber (x .number) (standing b) → ⊥) × (length (standing b) < 48))
   file-lets-pass = (
     (λ p.
@@ -91,12 +92,11 @@ module _ (b : Book) (x : Notice) where
   )
 
   -- past 16, 3, 4, 5 and 6: 7 is given exactly when the number stands, whether 48 stand or fewer; and then 8 exactly when 48 stand
-  module _ (sound : unsound b ≡ false) (some : 1 ≤ x .number) (fit : unfit (b .n) (x .target) ≡ false) where
+  module _ (sound : unsound b ≡ false) (some : 1 ≤ x .number) (fit : unfit (b .n) x ≡ false) where
     past-six : {k : ℕ} → Given k ((7 when stands (x .number) (standing b)) ∷ (8 when length (standing b) notBelow 48) ∷ []) → Given k (fileChecks b x)
     past-six g =
-        let u = neither (outsideFabric (b .n) (x .target) || badField (b .n) (x .target)) (tooWide (x .target)) fit in
-        let v = neither (outsideFabric (b .n) (x .target)) (badField (b .n) (x .target)) (u .0) in
-        later sound (later (ne-eqb (x .number) 0 (λ e. omega arith)) (later (v .0) (later (v .1) (later (u .1) g))))
+        let u = all-pass (b .n) x .0 fit in
+        later sound (later (ne-eqb (x .number) 0 (λ e. omega arith)) (later (u .0) (later (u .1) (later (u .2) g))))
 
     pub seven-though-full : HasNumber (x .number) (standing b) → Given 7 (fileChecks b x)
     seven-though-full w = past-six (here (number-stands (x .number) (standing b) w) refl)
@@ -178,6 +178,6 @@ filed-standing b x y =
 pub withdrawn-standing : (b : Book) (k : ℕ) (y : Notice) → Sound b → List·Memᴰ y (standing (withdrawn b k)) ↔ (List·Memᴰ y (standing b) × (y .number ≡ k → ⊥))
 withdrawn-standing b k y sound =
     let e = standing-of (b .n) (without k (standing b)) in (
-      (λ m. without-member (b .n) 0 k y (standing b) (sound .filed) (rw e at m)),
+      (λ m. without-member k y (standing b) (rw e at m)),
       (λ w. rw e (without-keeps k y (standing b) (w .0) (w .1))),
     )

@@ -10,6 +10,7 @@ use lib.Seq.{paste, getD-take}
 use Rattle.places.proofs.Placing.{insertAt, removeAt, place-le, place-past, place-stands, standing-place, without-at, insert-at}
 use Rattle.notices.specs.declared.Notice.{Notice}
 use Rattle.book.specs.declared.Book.{Book}
+use Rattle.notices.specs.Notices.{unfit}
 use Rattle.standing.specs.Rising.{filler, stands, insert, without}
 use Rattle.book.specs.Standing.{standing, bookOf, Sound}
 use Rattle.book.proofs.Filings.{length-standing, split}
@@ -46,7 +47,7 @@ module _ (b : Book) (sound : Sound b) (full : length (b .notices) ≡ 48) where
       let f = sound .fits in
       let l : length s ≡ b .count = length-standing b sound full in
       let q = standing-place k s h in
-      let i : without k s ≡ removeAt p s = without-at k (b .n) 0 s (sound .filed) h ∙ ap (λ (m : ℕ). removeAt m s) (sym at) in
+      let i : without k s ≡ removeAt p s = without-at k (unfit (b .n)) 0 s (sound .filed) h ∙ ap (λ (m : ℕ). removeAt m s) (sym at) in
       let c : length (without k s) ≡ b .count - 1 = ap length i ∙ simp (length-append, length-take, length-drop) (omega arith) in
       let t : set (paste (b .notices) p (drop (p + 1) (b .notices)) (b .count - p - 1)) (b .count - 1) filler ≡ without k s ++ filler ∷ r =
       ap₂ (λ (ns : List Notice) (m : ℕ). set (paste ns p (drop (p + 1) ns) (m - p - 1)) (m - 1) filler) (split b sound) (sym l)
@@ -59,7 +60,7 @@ module _ (b : Book) (sound : Sound b) (full : length (b .notices) ≡ 48) where
   stands-here k p at h =
       let l = length-standing b sound full in
       let d : Notice = filler in
-      sym (place-stands k (b .n) d 0 (standing b) (sound .filed) (omega arith)
+      sym (place-stands k (unfit (b .n)) d 0 (standing b) (sound .filed) (omega arith)
       ∙ ap (λ (m : ℕ). eqb (getD (standing b) m d .number) k) (sym at)
       ∙ ap (λ (y : Notice). eqb (y .number) k) (getD-take (b .count) (b .notices) p d h))
 

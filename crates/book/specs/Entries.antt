@@ -11,7 +11,7 @@ use Rattle.fabric.specs.Labels.{outsideSizes}
 use Rattle.notices.specs.declared.Notice.{Notice}
 use Rattle.book.specs.declared.Book.{Book}
 use Rattle.book.specs.declared.Kept.{Kept}
-use Rattle.notices.specs.Targets.{outsideFabric, badField, tooWide}
+use Rattle.notices.specs.Notices.{outsideFabric, badField, tooWide}
 use Rattle.book.specs.Standing.{standing, bookOf, unsound}
 use Rattle.standing.specs.Rising.{stands, insert, without}
 
@@ -44,9 +44,9 @@ abbrev pub fileChecks : Book → Notice → List Check
 fileChecks b x =
     bookChecks b
     ++ (3 when eqb (x .number) 0)
-    ∷ (4 when outsideFabric (b .n) (x .target))
-    ∷ (5 when badField (b .n) (x .target))
-    ∷ (6 when tooWide (x .target))
+    ∷ (4 when outsideFabric (b .n) x)
+    ∷ (5 when badField (b .n) x)
+    ∷ (6 when tooWide x)
     ∷ (7 when stands (x .number) (standing b))
     ∷ (8 when length (standing b) notBelow 48)
     ∷ []

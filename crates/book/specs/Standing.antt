@@ -1,15 +1,16 @@
 -- Document 01, 'Notices': what stands in a book, and what stops a link.
 use mathlib.Core.Path.{_≡_}
-use mathlib.Core.Bool.{Bool, true, cond, _||_}
-use mathlib.Core.List.{List, [], _∷_, _++_, List·Memᴰ}
+use mathlib.Core.Bool.{Bool, _||_}
+use mathlib.Core.List.{List, _++_}
 use Prim.Native.Nat.{ℕ, _-_, _≤_}
 use lib.ListN.{length, take, drop, replicate}
 use Rattle.table.specs.Checks.{_below_}
 use Rattle.fabric.specs.Labels.{outsideSizes}
 use Rattle.notices.specs.declared.Notice.{Notice}
+use Rattle.notices.specs.Notices.{names, unfit}
+use Rattle.standing.specs.Picked.{Some, lowest}
 use Rattle.standing.specs.Rising.{filler, Filed, misfiled, littered}
 use Rattle.book.specs.declared.Book.{Book}
-use Rattle.notices.specs.Targets.{names}
 
 -- the notices that stand
 abbrev pub standing : Book → List Notice
@@ -27,25 +28,24 @@ bookOf n l = record { n = n; count = length l; notices = l ++ replicate (48 - le
 -- The test behind 16, "a book that an accepted opening, filing and withdrawing cannot produce": `reachable-sound` and
 -- `sound-reachable` (changes/proofs/Reach.antt) say that it is that sentence exactly.
 abbrev pub unsound : Book → Bool
-unsound b = outsideSizes (b .n) || 48 below b .count || misfiled (b .n) 0 (standing b) || littered (unused b)
+unsound b = outsideSizes (b .n) || 48 below b .count || misfiled (unfit (b .n)) 0 (standing b) || littered (unused b)
 
 -- what holds of a book that passes: `sound-if` (proofs/Filings.antt)
 pub record Sound (b : Book) : Type 0 where
   pub some : 1 ≤ b .n
   pub few : b .n ≤ 12
   pub fits : b .count ≤ 48
-  pub filed : Filed (b .n) 0 (standing b)
+  pub filed : Filed (unfit (b .n)) 0 (standing b)
   pub rest : unused b ≡ replicate (48 - b .count) filler
 
 -- some notice that stands in the list names the link
 abbrev pub Stopped : ℕ → List Notice → ℕ → ℕ → ℕ → Type 0
-Stopped n l i j c = (x : Notice) × List·Memᴰ x l × (names n (x .target) i j c ≡ true)
+Stopped n l i j c = Some (λ x. names n x i j c) l
 
 -- The number of the first notice of the list that names the link, 0 where none does. `stopper-none` and `stopper-some` (proofs/Stoppers.antt)
 -- tie it to `Stopped`, and `stopper-lowest` says that it is the lowest such number among standing notices.
-unfoldable pub stopper : ℕ → List Notice → ℕ → ℕ → ℕ → ℕ
-stopper n [] i j c = 0
-stopper n (x ∷ xs) i j c = cond (names n (x .target) i j c) (x .number) (stopper n xs i j c)
+abbrev pub stopper : ℕ → List Notice → ℕ → ℕ → ℕ → ℕ
+stopper n l i j c = lowest (λ x. names n x i j c) l
 
 -- Which links a book stops, and the lowest number that does: `stops-exactly` (proofs/Entries.antt). `clear-since` (promises/proofs/Clearness.antt)
 -- says that these are the links that the notices accepted and not withdrawn since name.

@@ -14,7 +14,8 @@ use Rattle.table.specs.Checks.{Given, Passed, _when_, _below_}
 use Rattle.fabric.specs.Labels.{outsideSizes}
 use Rattle.notices.specs.declared.Notice.{Notice}
 use Rattle.book.specs.declared.Book.{Book}
-use Rattle.notices.specs.Targets.{unfit}
+use Rattle.notices.specs.Notices.{unfit}
+use Rattle.notices.proofs.Fit.{all-pass}
 use Rattle.standing.specs.Rising.{filler, insert, without, Filed, misfiled, littered}
 use Rattle.book.specs.Standing.{standing, unused, bookOf, unsound}
 use Rattle.book.specs.declared.Kept.{Kept}
@@ -24,12 +25,12 @@ use Rattle.changes.specs.Runs.{Change, changeChecks, changed, answer, af
 use Rattle.standing.proofs.Filings.{filed-passes, filler-unlittered}
 use Rattle.standing.proofs.Members.{insert-filed, insert-length, insert-member, insert-has, insert-keeps, without-filed, without-length, without-member, without-keeps}
 
-pub sound-of : (n : ℕ) (l : List Notice) → outsideSizes n ≡ false → Filed n 0 l → length l ≤ 48 → unsound (bookOf n l) ≡ false
+pub sound-of : (n : ℕ) (l : List Notice) → outsideSizes n ≡ false → Filed (unfit n) 0 l → length l ≤ 48 → unsound (bookOf n l) ≡ false
 sound-of n l size f h =
-    neither-of (outsideSizes n || 48 below length l || misfiled n 0 (standing (bookOf n l))) (littered (unused (bookOf n l)))
-    (neither-of (outsideSizes n || 48 below length l) (misfiled n 0 (standing (bookOf n l)))
+    neither-of (outsideSizes n || 48 below length l || misfiled (unfit n) 0 (standing (bookOf n l))) (littered (unused (bookOf n l)))
+    (neither-of (outsideSizes n || 48 below length l) (misfiled (unfit n) 0 (standing (bookOf n l)))
     (neither-of (outsideSizes n) (48 below length l) size (le-ltb 48 (length l) h))
-    (ap (misfiled n 0) (standing-of n l) ∙ filed-passes n 0 l f))
+    (ap (misfiled (unfit n) 0) (standing-of n l) ∙ filed-passes (unfit n) 0 l f))
     (ap littered (drop-append-seam l (replicate (48 - length l) filler)) ∙ filler-unlittered (48 - length l))
 
 -- the runs of the theorems are runs of the entries: what an entry answers and leaves is what its change answers and leaves
@@ -45,10 +46,10 @@ withdraws-change b k r p = (p .says, p .leaves)
 -- the book is that of its own standing notices, and they are such as accepted filings leave
 pub record Good (n : ℕ) (b : Book) : Type 0 where
   pub whole : b ≡ bookOf n (standing b)
-  pub filed : Filed n 0 (standing b)
+  pub filed : Filed (unfit n) 0 (standing b)
   pub fits : length (standing b) ≤ 48
 
-pub good-of : (n : ℕ) (l : List Notice) → Filed n 0 l → length l ≤ 48 → Good n (bookOf n l)
+pub good-of : (n : ℕ) (l : List Notice) → Filed (unfit n) 0 l → length l ≤ 48 → Good n (bookOf n l)
 good-of n l f h =
     record {
       whole = ap (bookOf n) (sym (standing-of n l));
@@ -96,12 +97,12 @@ module _ (n : ℕ) (b : Book) (good : Good n b) where
   good-filed x p =
       let s : List Notice = standing b in
       let ok : (k : ℕ) → getD (fileChecks b x) k (0 when false) .holds ≡ false = λ k. passed-nth (fileChecks b x) k p in
-      let u : unfit (b .n) (x .target) ≡ false = neither-of _ _ (neither-of _ _ (ok 2) (ok 3)) (ok 4) in
+      let u : unfit (b .n) x ≡ false = all-pass (b .n) x .1 (ok 2, ok 3, ok 4) in
       let z = eqb-false (x .number) 0 (ok 1) in
       let r = leb-false 48 (length s) (ok 6) in
       let l = insert-length x s in
       good-of n (insert x s)
-      (insert-filed n 0 x s (good .filed) (nonzero (x .number) z) (subst (λ (k : ℕ). unfit k (x .target) ≡ false) same-size u) (ok 5))
+      (insert-filed (unfit n) 0 x s (good .filed) (nonzero (x .number) z) (subst (λ (k : ℕ). unfit k x ≡ false) same-size u) (ok 5))
       (omega arith)
     where
       nonzero : (k : ℕ) → (k ≡ 0 → ⊥) → 0 < k
@@ -112,7 +113,7 @@ module _ (n : ℕ) (b : Book) (good : Good n b) where
   good-withdrawn k =
       let l = without-length k (standing b) in
       let h = good .fits in
-      good-of n (without k (standing b)) (without-filed n 0 k (standing b) (good .filed)) (omega arith)
+      good-of n (without k (standing b)) (without-filed (unfit n) 0 k (standing b) (good .filed)) (omega arith)
 
   pub good-after : (a : Change) → Good n (after a b)
   good-after (Change.file x) =
@@ -162,7 +163,7 @@ module _ (n : ℕ) (b : Book) (good : Good n b) where
   stood-or-filed x (Change.withdraw k) m =
       ⊎-elim
       (λ w.
-      let v = without-member n 0 k x (standing b) (good .filed) (rw (standing-withdrawn k w) at m) in
+      let v = without-member k x (standing b) (rw (standing-withdrawn k w) at m) in
       inl (v .0, λ e q. let z : x .number ≡ k = cc in v .1 z))
       (λ w. inl (rw (w .1) at m, λ e. w .0))
       (taken-or-left (Change.withdraw k) b)

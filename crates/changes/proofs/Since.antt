@@ -17,7 +17,7 @@ use Rattle.fabric.specs.Labels.{size, outsideSizes}
 use Rattle.notices.specs.declared.Notice.{Notice}
 use Rattle.book.specs.declared.Book.{Book}
 use Rattle.questions.specs.declared.Link.{Link}
-use Rattle.notices.specs.Targets.{names}
+use Rattle.notices.specs.Notices.{unfit}
 use Rattle.book.specs.Standing.{standing, bookOf, Stopped, stopper}
 use Rattle.book.specs.Entries.{opened}
 use Rattle.questions.specs.Entries.{linkChecks, linkSays, Tests}
@@ -104,7 +104,7 @@ run-at-most-48 n changes = run-good n changes .1 .fits
 pub since-list : (n : ℕ) (changes : List Change) → (l : List Notice) × Distinct l × ((x : Notice) → List·Memᴰ x l ↔ StandsSince (opened n) changes x)
 since-list n changes =
     let g = run-good n changes in
-    (standing (run changes (opened n)), filed-distinct (g .0) 0 (standing (run changes (opened n))) (g .1 .filed), stands-exactly n changes)
+    (standing (run changes (opened n)), filed-distinct (unfit (g .0)) 0 (standing (run changes (opened n))) (g .1 .filed), stands-exactly n changes)
 
 -- and so it is with what the link test answers
 module _ (n : ℕ) (legal : outsideSizes n ≡ false) (changes : List Change) (i j c : ℕ) (stage : i < n) (label : j < size n) (code : c < 3) (r : Link) where

@@ -1,21 +1,18 @@
 -- A sound book stays sound: what is opened is sound, and so is what a filing or withdrawing of a sound book leaves.
 use mathlib.Core.Path.{_≡_, sym, ap, ap₂, subst, _∙_}
 use mathlib.Core.Bool.{false}
-use mathlib.Core.List.{List, [], _++_}
+use mathlib.Core.List.{List, _++_}
 use Prim.Native.Nat.{ℕ, _-_, _≤_}
-use native.Mathlib.Omega.{arith}
 use borrow.Author.Tests.{le-ltb}
 use lib.ListN.{length, replicate}
 use lib.Seq.{drop-append-seam}
 use Rattle.table.proofs.Checks.{neither-of}
 use Rattle.fabric.specs.Labels.{outsideSizes}
 use Rattle.notices.specs.declared.Notice.{Notice}
+use Rattle.notices.specs.Notices.{unfit}
 use Rattle.standing.specs.Rising.{filler, Filed}
 use Rattle.book.specs.declared.Book.{Book}
-use Rattle.book.specs.declared.Kept.{Kept}
 use Rattle.book.specs.Standing.{standing, bookOf, Sound}
-use Rattle.book.specs.Entries.{Opens, Files, Withdraws}
-use Rattle.changes.specs.Runs.{Change, after}
 use Rattle.book.proofs.Filings.{standing-of, length-standing, split}
 use Rattle.changes.proofs.Changes.{Good}
 
@@ -30,7 +27,7 @@ whole b sound places =
     ap₂ (λ (c : ℕ) (ns : List Notice). record { n = b .n; count = c; notices = ns }) l
     (ap (λ (k : ℕ). standing b ++ replicate (48 - k) filler) l ∙ sym (split b sound))
 
-sound-book : (n : ℕ) (l : List Notice) → 1 ≤ n → n ≤ 12 → Filed n 0 l → length l ≤ 48 → Sound (bookOf n l)
+sound-book : (n : ℕ) (l : List Notice) → 1 ≤ n → n ≤ 12 → Filed (unfit n) 0 l → length l ≤ 48 → Sound (bookOf n l)
 sound-book n l some few filed fits =
     record {
       some = some;

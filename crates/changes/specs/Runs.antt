@@ -6,7 +6,7 @@ use Prim.Native.Nat.{ℕ}
 use Rattle.table.specs.Reply.{Reply, refused}
 use Rattle.table.specs.Checks.{Check, checked}
 use Rattle.notices.specs.declared.Notice.{Notice}
-use Rattle.notices.specs.Targets.{names}
+use Rattle.notices.specs.Notices.{names}
 use Rattle.book.specs.declared.Book.{Book}
 use Rattle.book.specs.Entries.{openChecks, opened, fileChecks, withdrawChecks, filed, withdrawn}
 
@@ -72,4 +72,4 @@ pub record StandsSince (b : Book) (changes : List Change) (x : Notice) : Type 0 
 -- In a run from an empty book of n stages, some notice names the link that was accepted and not withdrawn since: `link-exactly`
 -- (proofs/Since.antt).
 abbrev pub NamedSince : ℕ → List Change → ℕ → ℕ → ℕ → Type 0
-NamedSince n changes i j c = (x : Notice) × StandsSince (opened n) changes x × (names n (x .target) i j c ≡ true)
+NamedSince n changes i j c = (x : Notice) × StandsSince (opened n) changes x × (names n x i j c ≡ true)

@@ -9,6 +9,7 @@ use lib.ListN.{length, length-take}
 use Rattle.table.specs.Checks.{_below_}
 use Rattle.table.proofs.Checks.{accepted-passed, accepted-says, passed-nth, neither}
 use Rattle.fabric.specs.Labels.{outsideSizes}
+use Rattle.notices.specs.Notices.{unfit}
 use Rattle.standing.specs.Rising.{misfiled, littered}
 use Rattle.book.specs.declared.Book.{Book}
 use Rattle.questions.specs.declared.Listing.{Listing}
@@ -20,8 +21,8 @@ few-listed {b} {before} {after} {r} {count} w e =
     let says = ap listingSays (sym e) ∙ w .says in
     let passed = accepted-passed (listingChecks b before) (length (standing b) ∷ []) (count ∷ []) says in
     let same = accepted-says (listingChecks b before) (length (standing b) ∷ []) (count ∷ []) says in
-    let o = neither (outsideSizes (b .n) || 48 below b .count || misfiled (b .n) 0 (standing b)) (littered (unused b)) (passed-nth (listingChecks b before) 0 passed) in
-    let p = neither (outsideSizes (b .n) || 48 below b .count) (misfiled (b .n) 0 (standing b)) (o .0) in
+    let o = neither (outsideSizes (b .n) || 48 below b .count || misfiled (unfit (b .n)) 0 (standing b)) (littered (unused b)) (passed-nth (listingChecks b before) 0 passed) in
+    let p = neither (outsideSizes (b .n) || 48 below b .count) (misfiled (unfit (b .n)) 0 (standing b)) (o .0) in
     let few = ltb-false 48 (b .count) (neither (outsideSizes (b .n)) (48 below b .count) (p .0) .1) in
     let k : count ≡ length (standing b) = cc in
     let t = length-take (b .count) (b .notices) in

@@ -14,8 +14,11 @@ use lib.Count.{ones, ones-step, ones-le}
 use Rattle.table.proofs.Checks.{neither}
 use Rattle.table.specs.Checks.{_below_, _notBelow_}
 use Rattle.fabric.specs.Labels.{size}
+use Rattle.notices.specs.declared.Notice.{Notice}
 use Rattle.notices.specs.declared.Target.the-variants.{Links, Pattern}
-use Rattle.notices.specs.Targets.{names, setHas, badSet, badField, tooWide, unfit, howMany, switchesNamed}
+use Rattle.notices.specs.Targets.{setHas, badSet}
+use Rattle.notices.specs.Notices.{names, badField, tooWide, unfit, howMany, switchesNamed}
+use Rattle.notices.proofs.Fit.{ones-below, two-ones, pattern-fit}
 
 -- tests that agree pick the same number of labels
 same-tests : (f g : ℕ → Bool) → ((j : ℕ) → f j ≡ g j) → (k : ℕ) → howMany f k ≡ howMany g k
@@ -129,33 +132,37 @@ picked-is (suc n) v m h w =
         halves ∙ omega arith
 
 -- a links notice of a switch of the fabric names one switch, for each code of its set
-pub links-name-one : (n stage switch s c : ℕ) → switch < size n → setHas s c ≡ true → switchesNamed n (Links stage switch s) stage c ≡ 1
-links-name-one n stage switch s c h has =
-    same-tests (λ j. names n (Links stage switch s) stage j c) (λ j. eqb j switch)
-    (λ j. rw (eq-eqb stage stage refl, has) (and-true (eqb j switch)))
+pub links-name-one : (n : ℕ) (x : Notice) (stage switch s c : ℕ) → x .target ≡ Links stage switch s → switch < size n → setHas s c ≡ true
+    → switchesNamed n x stage c ≡ 1
+links-name-one n x stage switch s c is h has =
+    same-tests (λ j. names n x stage j c) (λ j. eqb j switch)
+    (λ j. rw (is, eq-eqb stage stage refl, has) (and-true (eqb j switch)))
     (size n)
     ∙ one-picked switch (size n)
     ∙ rw (lt-ltb switch (size n) h)
 
 -- a pattern that check 5 passes, at its stage, for each code of its set
-module _ (n stage value mask s c : ℕ) (good : badField n (Pattern stage value mask s) ≡ false) (has : setHas s c ≡ true) where
+module _ (n : ℕ) (x : Notice) (stage value mask s c : ℕ) (is : x .target ≡ Pattern stage value mask s) (good : badField n x ≡ false) (has : setHas s c ≡ true) where
+  tested : ((badSet s || mask notBelow size n) ≡ false) × (not (eqb (bitAnd value mask) value) ≡ false)
+  tested = neither (badSet s || mask notBelow size n) (not (eqb (bitAnd value mask) value)) (rw is at good)
+
   small : mask < size n
-  small = leb-false (size n) mask (neither (badSet s) (mask notBelow size n) (neither (badSet s || mask notBelow size n) (not (eqb (bitAnd value mask) value)) good .0) .1)
+  small = leb-false (size n) mask (neither (badSet s) (mask notBelow size n) (tested .0) .1)
 
   inside : bitAnd value mask ≡ value
-  inside = eqb-true (bitAnd value mask) value (not-false _ (neither (badSet s || mask notBelow size n) (not (eqb (bitAnd value mask) value)) good .1))
+  inside = eqb-true (bitAnd value mask) value (not-false _ (tested .1))
 
-  pub pattern-names-many : switchesNamed n (Pattern stage value mask s) stage c ≡ 2 ^ (n - ones mask)
+  pub pattern-names-many : switchesNamed n x stage c ≡ 2 ^ (n - ones mask)
   pattern-names-many =
-      same-tests (λ j. names n (Pattern stage value mask s) stage j c) (λ j. eqb (bitAnd j mask) value)
-      (λ j. rw (eq-eqb stage stage refl, has) (and-true (eqb (bitAnd j mask) value)))
+      same-tests (λ j. names n x stage j c) (λ j. eqb (bitAnd j mask) value)
+      (λ j. rw (is, eq-eqb stage stage refl, has) (and-true (eqb (bitAnd j mask) value)))
       (size n)
       ∙ picked-is n value mask small inside
 
   -- "A mask with fewer than two ones is too wide": such a pattern names half of the switches of its stage, or all
-  pub too-wide-names-half : tooWide (Pattern stage value mask s) ≡ true → size n ≤ switchesNamed n (Pattern stage value mask s) stage c * 2
+  pub too-wide-names-half : tooWide x ≡ true → size n ≤ switchesNamed n x stage c * 2
   too-wide-names-half e =
-      let o = ltb-true (ones mask) 2 e in
+      let o = ltb-true (ones mask) 2 (rw is at e) in
       let l = ones-le n mask small in
       let p : 2 ^ n ≤ 2 ^ (suc (n - ones mask)) = pow-mono (omega arith) in
       let q = pow-suc 2 (n - ones mask) in
@@ -163,9 +170,9 @@ module _ (n stage value mask s c : ℕ) (good : badField n (Pattern stage value 
       omega arith
 
   -- and one that is not too wide names a quarter of them at most
-  pub narrow-names-quarter : tooWide (Pattern stage value mask s) ≡ false → switchesNamed n (Pattern stage value mask s) stage c * 4 ≤ size n
+  pub narrow-names-quarter : tooWide x ≡ false → switchesNamed n x stage c * 4 ≤ size n
   narrow-names-quarter e =
-      let o = ltb-false (ones mask) 2 e in
+      let o = ltb-false (ones mask) 2 (rw is at e) in
       let l = ones-le n mask small in
       let p : 2 ^ (suc (suc (n - ones mask))) ≤ 2 ^ n = pow-mono (omega arith) in
       let q = pow-suc 2 (n - ones mask) in
@@ -174,15 +181,13 @@ module _ (n stage value mask s c : ℕ) (good : badField n (Pattern stage value 
       omega arith
 
 -- "so at n = 1 no pattern is accepted"
-pub one-stage-no-pattern : (stage value mask s : ℕ) → unfit 1 (Pattern stage value mask s) ≡ true
-one-stage-no-pattern stage value mask s = go (unfit 1 (Pattern stage value mask s)) refl
+pub one-stage-no-pattern : (x : Notice) (stage value mask s : ℕ) → x .target ≡ Pattern stage value mask s → unfit 1 x ≡ true
+one-stage-no-pattern x stage value mask s is = go (unfit 1 x) refl
   where
-    go : (u : Bool) → unfit 1 (Pattern stage value mask s) ≡ u → unfit 1 (Pattern stage value mask s) ≡ true
+    go : (u : Bool) → unfit 1 x ≡ u → unfit 1 x ≡ true
     go true e = e
     go false e =
-        let o = neither (stage notBelow 1 || badField 1 (Pattern stage value mask s)) (ones mask below 2) e in
-        let f = neither (stage notBelow 1) (badField 1 (Pattern stage value mask s)) (o .0) .1 in
-        let m = neither (badSet s || mask notBelow size 1) (not (eqb (bitAnd value mask) value)) f .0 in
-        let few = ones-le 1 mask (leb-false (size 1) mask (neither (badSet s) (mask notBelow size 1) m .1)) in
-        let many = ltb-false (ones mask) 2 (o .1) in
+        let w = pattern-fit 1 x stage value mask s is .0 e in
+        let few = ones-le 1 mask (ones-below 1 mask .1 (w .3)) in
+        let many = two-ones mask .1 (w .5) in
         absurd (omega arith)

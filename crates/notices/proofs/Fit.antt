@@ -1,13 +1,13 @@
--- What filing asks of a target, in document 01's own terms: 4, 5 and 6 of each kind, each exactly where its line holds.
+-- What filing asks of a notice of each target, in document 01's own terms: 4, 5 and 6, each exactly where its line holds.
 use mathlib.Core.Path.{_≡_, refl, sym, ap, _∙_}
 use mathlib.Core.Bool.{Bool, true, false, not, _||_}
 use mathlib.Core.List.{[], _∷_}
 use mathlib.Core.Logic.{_↔_}
-use Prim.Native.Nat.{ℕ, zero, suc, _+_, _*_, _/_, _%_, _^_, _≤_, _<_}
+use Prim.Native.Nat.{ℕ, zero, suc, _*_, _/_, _%_, _^_, _≤_, _<_}
 use native.Mathlib.Nat.{div-div-eq-div-mul, pow-suc}
 use native.Mathlib.Decide.{ℕ-discrete, decLt}
 use native.Mathlib.Omega.{arith}
-use borrow.Author.Tests.{lt-ltb, le-ltb, lt-leb, ltb-false, leb-false, eqb-true, not-false}
+use borrow.Author.Tests.{le-ltb, lt-leb, ltb-false, leb-false, eqb-true, not-false}
 use lib.Dec.{eqb}
 use lib.Bits.{bitAnd}
 use lib.Count.{ones, onesIn, ones-step}
@@ -15,49 +15,29 @@ use Rattle.table.proofs.Checks.{neither, neither-of, equal}
 use Rattle.table.specs.Checks.{_below_, _notBelow_}
 use Rattle.fabric.specs.Labels.{size, bit}
 use Rattle.fabric.proofs.Bits.{bit-lt}
+use Rattle.notices.specs.declared.Notice.{Notice}
 use Rattle.notices.specs.declared.Target.{Target}
 use Rattle.notices.specs.declared.Target.the-variants.{Links, Switch, Pattern}
-use Rattle.notices.specs.Targets.{outsideFabric, badSet, badField, tooWide, unfit}
+use Rattle.notices.specs.Targets.{badSet}
+use Rattle.notices.specs.Notices.{outsideFabric, badField, tooWide, unfit}
 use Rattle.notices.proofs.Named.{below-power, mask-below, value-in-mask}
 
 -- two tests that both fail
 both-fail : (a b : Bool) → ((a || b) ≡ false) ↔ ((a ≡ false) × (b ≡ false))
 both-fail a b = ((λ e. neither a b e), (λ w. neither-of a b (w .0) (w .1)))
 
--- a target is fit where 4, 5 and 6 all pass it
-all-pass : (n : ℕ) (t : Target) → (unfit n t ≡ false) ↔ ((outsideFabric n t ≡ false) × (badField n t ≡ false) × (tooWide t ≡ false))
-all-pass n t =
-    let o = both-fail (outsideFabric n t || badField n t) (tooWide t) in
-    let p = both-fail (outsideFabric n t) (badField n t) in
+-- a notice is fit where 4, 5 and 6 all pass it
+pub all-pass : (n : ℕ) (x : Notice) → (unfit n x ≡ false) ↔ ((outsideFabric n x ≡ false) × (badField n x ≡ false) × (tooWide x ≡ false))
+all-pass n x =
+    let o = both-fail (outsideFabric n x || badField n x) (tooWide x) in
+    let p = both-fail (outsideFabric n x) (badField n x) in
     ((λ e. let w = o .0 e in let v = p .0 (w .0) in (v .0, v .1, w .1)), (λ w. o .1 (p .1 (w .0, w .1), w .2)))
-
--- 4: "stage, column or switch outside the fabric"
-pub links-in-fabric : (n stage switch s : ℕ) → (outsideFabric n (Links stage switch s) ≡ false) ↔ ((stage < n) × (switch < 2 ^ n))
-links-in-fabric n stage switch s =
-    let o = both-fail (stage notBelow n) (switch notBelow size n) in
-    ((λ e. (leb-false n stage (o .0 e .0), leb-false (size n) switch (o .0 e .1))), (λ w. o .1 (lt-leb n stage (w .0), lt-leb (size n) switch (w .1))))
-
-pub switch-in-fabric : (n column switch : ℕ) → (outsideFabric n (Switch column switch) ≡ false) ↔ ((column ≤ n) × (switch < 2 ^ n))
-switch-in-fabric n column switch =
-    let o = both-fail (n below column) (switch notBelow size n) in
-    ((λ e. (ltb-false n column (o .0 e .0), leb-false (size n) switch (o .0 e .1))), (λ w. o .1 (le-ltb n column (w .0), lt-leb (size n) switch (w .1))))
-
--- "(a pattern's value is judged by 5 alone)"
-pub pattern-in-fabric : (n stage value mask s : ℕ) → (outsideFabric n (Pattern stage value mask s) ≡ false) ↔ (stage < n)
-pattern-in-fabric n stage value mask s = ((λ e. leb-false n stage e), (λ h. lt-leb n stage h))
 
 -- 5: "set outside 1 to 7"
 pub set-within : (s : ℕ) → (badSet s ≡ false) ↔ ((1 ≤ s) × (s ≤ 7))
 set-within s =
     let o = both-fail (s below 1) (7 below s) in
     ((λ e. (ltb-false s 1 (o .0 e .0), ltb-false 7 s (o .0 e .1))), (λ w. o .1 (le-ltb s 1 (w .0), le-ltb 7 s (w .1))))
-
-pub links-in-fields : (n stage switch s : ℕ) → (badField n (Links stage switch s) ≡ false) ↔ ((1 ≤ s) × (s ≤ 7))
-links-in-fields n stage switch s = set-within s
-
--- a switch has no field that 5 judges
-pub switch-in-fields : (n column switch : ℕ) → badField n (Switch column switch) ≡ false
-switch-in-fields n column switch = refl
 
 -- "Mask bits lie below n": every one of the mask does
 pub ones-below : (n mask : ℕ) → (mask < 2 ^ n) ↔ ((k : ℕ) → bit k mask ≡ 1 → k < n)
@@ -77,26 +57,6 @@ ones-below n mask =
         go : Dec (bit k mask ≡ 1) → bit k mask ≡ 0
         go (yes e) = let g = h k e in absurd (omega arith)
         go (no e) = let g = bit-lt k mask in omega arith
-
--- 5: "set outside 1 to 7, mask bit at n or above, value outside the mask"
-pub pattern-in-fields : (n stage value mask s : ℕ)
-    → (badField n (Pattern stage value mask s) ≡ false)
-    ↔ ((1 ≤ s) × (s ≤ 7) × ((k : ℕ) → bit k mask ≡ 1 → k < n) × ((k : ℕ) → bit k value ≡ 1 → bit k mask ≡ 1))
-pattern-in-fields n stage value mask s = (
-  (λ e.
-      let w = o .0 e in
-      let v = p .0 (w .0) in
-      let u = set-within s .0 (v .0) in
-      (u .0, u .1, ones-below n mask .0 (leb-false (size n) mask (v .1)), value-in-mask value mask .0 (eqb-true (bitAnd value mask) value (not-false (eqb (bitAnd value mask) value) (w .1))))),
-  (λ w. o .1 (p .1 (set-within s .1 (w .0, w .1), lt-leb (size n) mask (ones-below n mask .1 (w .2))), equal (value-in-mask value mask .1 (w .3)))),
-)
-  where
-    o : ((badSet s || mask notBelow size n || not (eqb (bitAnd value mask) value)) ≡ false)
-        ↔ (((badSet s || mask notBelow size n) ≡ false) × (not (eqb (bitAnd value mask) value) ≡ false))
-    o = both-fail (badSet s || mask notBelow size n) (not (eqb (bitAnd value mask) value))
-
-    p : ((badSet s || mask notBelow size n) ≡ false) ↔ ((badSet s ≡ false) × ((mask notBelow size n) ≡ false))
-    p = both-fail (badSet s) (mask notBelow size n)
 
 -- one bit further up is the same bit of the half
 bit-of-half : (k m : ℕ) → bit (suc k) m ≡ bit k (m / 2)
@@ -164,71 +124,98 @@ two-counted (suc j) (suc k) m l e f =
 pub two-ones : (mask : ℕ) → (2 ≤ ones mask) ↔ ((j : ℕ) × (k : ℕ) × (j < k) × (bit j mask ≡ 1) × (bit k mask ≡ 1))
 two-ones mask = ((λ h. two-found mask mask (below-power mask) h), (λ w. two-counted (w .0) (w .1) mask (w .2) (w .3) (w .4)))
 
--- 6: "A mask with fewer than two ones is too wide": it is not where two different places of the mask are ones
-pub pattern-narrow : (stage value mask s : ℕ)
-    → (tooWide (Pattern stage value mask s) ≡ false) ↔ ((j : ℕ) × (k : ℕ) × (j < k) × (bit j mask ≡ 1) × (bit k mask ≡ 1))
-pattern-narrow stage value mask s =
-    let o = two-ones mask in
-    ((λ e. o .0 (ltb-false (ones mask) 2 e)), (λ w. le-ltb (ones mask) 2 (o .1 w)))
-
--- only a pattern can be too wide
-pub links-narrow : (stage switch s : ℕ) → tooWide (Links stage switch s) ≡ false
-links-narrow stage switch s = refl
-
-pub switch-narrow : (column switch : ℕ) → tooWide (Switch column switch) ≡ false
-switch-narrow column switch = refl
-
 -- "Links: stage 0 to n-1, switch, and a set (..; 1 to 7)"
-pub links-fit : (n stage switch s : ℕ) → (unfit n (Links stage switch s) ≡ false) ↔ ((stage < n) × (switch < 2 ^ n) × (1 ≤ s) × (s ≤ 7))
-links-fit n stage switch s = (
-  (λ e.
-      let w = three .0 e in
-      let a = links-in-fabric n stage switch s .0 (w .0) in
-      let b = links-in-fields n stage switch s .0 (w .1) in
-      (a .0, a .1, b .0, b .1)),
-  (λ w. three .1 (links-in-fabric n stage switch s .1 (w .0, w .1), links-in-fields n stage switch s .1 (w .2, w .3), refl)),
-)
-  where
-    three : (unfit n (Links stage switch s) ≡ false)
-        ↔ ((outsideFabric n (Links stage switch s) ≡ false) × (badField n (Links stage switch s) ≡ false) × (tooWide (Links stage switch s) ≡ false))
-    three = all-pass n (Links stage switch s)
+module _ (n : ℕ) (x : Notice) (stage switch s : ℕ) (is : x .target ≡ Links stage switch s) where
+  -- 4: "stage, column or switch outside the fabric"
+  pub links-in-fabric : (outsideFabric n x ≡ false) ↔ ((stage < n) × (switch < 2 ^ n))
+  links-in-fabric =
+      let o = both-fail (stage notBelow n) (switch notBelow size n) in
+      rw is ((λ e. (leb-false n stage (o .0 e .0), leb-false (size n) switch (o .0 e .1))), (λ w. o .1 (lt-leb n stage (w .0), lt-leb (size n) switch (w .1))))
+
+  -- 5: "set outside 1 to 7"
+  pub links-in-fields : (badField n x ≡ false) ↔ ((1 ≤ s) × (s ≤ 7))
+  links-in-fields = rw is (set-within s)
+
+  -- only a pattern can be too wide
+  pub links-narrow : tooWide x ≡ false
+  links-narrow = rw is refl
+
+  pub links-fit : (unfit n x ≡ false) ↔ ((stage < n) × (switch < 2 ^ n) × (1 ≤ s) × (s ≤ 7))
+  links-fit =
+      let three = all-pass n x in
+      let f = links-in-fabric in
+      let g = links-in-fields in (
+        (λ e. let w = three .0 e in let a = f .0 (w .0) in let b = g .0 (w .1) in (a .0, a .1, b .0, b .1)),
+        (λ w. three .1 (f .1 (w .0, w .1), g .1 (w .2, w .3), links-narrow)),
+      )
 
 -- "Switch: column 0 to n and switch"
-pub switch-fit : (n column switch : ℕ) → (unfit n (Switch column switch) ≡ false) ↔ ((column ≤ n) × (switch < 2 ^ n))
-switch-fit n column switch =
-    let three = all-pass n (Switch column switch) in
-    let a = switch-in-fabric n column switch in
-    ((λ e. a .0 (three .0 e .0)), (λ w. three .1 (a .1 w, refl, refl)))
+module _ (n : ℕ) (x : Notice) (column switch : ℕ) (is : x .target ≡ Switch column switch) where
+  pub switch-in-fabric : (outsideFabric n x ≡ false) ↔ ((column ≤ n) × (switch < 2 ^ n))
+  switch-in-fabric =
+      let o = both-fail (n below column) (switch notBelow size n) in
+      rw is ((λ e. (ltb-false n column (o .0 e .0), leb-false (size n) switch (o .0 e .1))), (λ w. o .1 (le-ltb n column (w .0), lt-leb (size n) switch (w .1))))
+
+  -- a switch has no field that 5 judges
+  pub switch-in-fields : badField n x ≡ false
+  switch-in-fields = rw is refl
+
+  pub switch-narrow : tooWide x ≡ false
+  switch-narrow = rw is refl
+
+  pub switch-fit : (unfit n x ≡ false) ↔ ((column ≤ n) × (switch < 2 ^ n))
+  switch-fit =
+      let three = all-pass n x in
+      let f = switch-in-fabric in
+      ((λ e. f .0 (three .0 e .0)), (λ w. three .1 (f .1 w, switch-in-fields, switch-narrow)))
 
 -- "Pattern: stage, value, mask, set"; "Mask bits lie below n and the value has no one outside the mask"; two ones or more
-pub pattern-fit : (n stage value mask s : ℕ)
-    → (unfit n (Pattern stage value mask s) ≡ false)
-    ↔ ((stage < n)
-    × (1 ≤ s)
-    × (s ≤ 7)
-    × ((k : ℕ) → bit k mask ≡ 1 → k < n)
-    × ((k : ℕ) → bit k value ≡ 1 → bit k mask ≡ 1)
-    × ((j : ℕ) × (k : ℕ) × (j < k) × (bit j mask ≡ 1) × (bit k mask ≡ 1)))
-pattern-fit n stage value mask s = (
-  (λ e.
-      let w = three .0 e in
-      let b = pattern-in-fields n stage value mask s .0 (w .1) in
-      (pattern-in-fabric n stage value mask s .0 (w .0), b .0, b .1, b .2, b .3, pattern-narrow stage value mask s .0 (w .2))),
-  (λ w.
-      three .1 (
-        pattern-in-fabric n stage value mask s .1 (w .0),
-        pattern-in-fields n stage value mask s .1 (w .1, w .2, w .3, w .4),
-        pattern-narrow stage value mask s .1 (w .5),
-      )),
-)
-  where
-    three : (unfit n (Pattern stage value mask s) ≡ false)
-        ↔ ((outsideFabric n (Pattern stage value mask s) ≡ false) × (badField n (Pattern stage value mask s) ≡ false) × (tooWide (Pattern stage value mask s) ≡ false))
-    three = all-pass n (Pattern stage value mask s)
+module _ (n : ℕ) (x : Notice) (stage value mask s : ℕ) (is : x .target ≡ Pattern stage value mask s) where
+  -- "(a pattern's value is judged by 5 alone)"
+  pub pattern-in-fabric : (outsideFabric n x ≡ false) ↔ (stage < n)
+  pattern-in-fabric = rw is ((λ e. leb-false n stage e), (λ h. lt-leb n stage h))
 
--- the filings of 01's example, n = 3: three targets that are accepted, and one that is refused with 6
-pub example-targets :
-    unfit 3 (Links 0 1 4) ∷ unfit 3 (Pattern 0 1 3 4) ∷ unfit 3 (Switch 1 2) ∷ tooWide (Pattern 0 1 1 7) ∷ []
+  -- 5: "set outside 1 to 7, mask bit at n or above, value outside the mask"
+  pub pattern-in-fields : (badField n x ≡ false)
+      ↔ ((1 ≤ s) × (s ≤ 7) × ((k : ℕ) → bit k mask ≡ 1 → k < n) × ((k : ℕ) → bit k value ≡ 1 → bit k mask ≡ 1))
+  pattern-in-fields =
+      let o = both-fail (badSet s || mask notBelow size n) (not (eqb (bitAnd value mask) value)) in
+      let p = both-fail (badSet s) (mask notBelow size n) in
+      rw is (
+        (λ e.
+            let w = o .0 e in
+            let v = p .0 (w .0) in
+            let u = set-within s .0 (v .0) in
+            (u .0, u .1, ones-below n mask .0 (leb-false (size n) mask (v .1)), value-in-mask value mask .0 (eqb-true (bitAnd value mask) value (not-false (eqb (bitAnd value mask) value) (w .1))))),
+        (λ w. o .1 (p .1 (set-within s .1 (w .0, w .1), lt-leb (size n) mask (ones-below n mask .1 (w .2))), equal (value-in-mask value mask .1 (w .3)))),
+      )
+
+  -- 6: "A mask with fewer than two ones is too wide": it is not where two different places of the mask are ones
+  pub pattern-narrow : (tooWide x ≡ false) ↔ ((j : ℕ) × (k : ℕ) × (j < k) × (bit j mask ≡ 1) × (bit k mask ≡ 1))
+  pattern-narrow =
+      let o = two-ones mask in
+      rw is ((λ e. o .0 (ltb-false (ones mask) 2 e)), (λ w. le-ltb (ones mask) 2 (o .1 w)))
+
+  pub pattern-fit : (unfit n x ≡ false)
+      ↔ ((stage < n)
+      × (1 ≤ s)
+      × (s ≤ 7)
+      × ((k : ℕ) → bit k mask ≡ 1 → k < n)
+      × ((k : ℕ) → bit k value ≡ 1 → bit k mask ≡ 1)
+      × ((j : ℕ) × (k : ℕ) × (j < k) × (bit j mask ≡ 1) × (bit k mask ≡ 1)))
+  pattern-fit =
+      let three = all-pass n x in
+      let g = pattern-in-fields in (
+        (λ e. let w = three .0 e in let b = g .0 (w .1) in (pattern-in-fabric .0 (w .0), b .0, b .1, b .2, b .3, pattern-narrow .0 (w .2))),
+        (λ w. three .1 (pattern-in-fabric .1 (w .0), g .1 (w .1, w .2, w .3, w .4), pattern-narrow .1 (w .5))),
+      )
+
+-- the filings of 01's example, n = 3: three notices that are accepted, and one that is refused with 6
+abbrev filing : ℕ → Target → Notice
+filing k t = record { number = k; target = t }
+
+pub example-filings :
+    unfit 3 (filing 7 (Links 0 1 4)) ∷ unfit 3 (filing 8 (Pattern 0 1 3 4)) ∷ unfit 3 (filing 10 (Switch 1 2)) ∷ tooWide (filing 9 (Pattern 0 1 1 7)) ∷ []
     ≡ false ∷ false ∷ false ∷ true ∷ []
 unfolding ones onesIn
-example-targets = refl
+example-filings = refl

@@ -1,4 +1,4 @@
--- which links a target names, how many switches a pattern names, and what filing accepts
+-- which links a notice names, how many switches a pattern names, and what filing accepts
 pub mod Sets
 pub mod Named
 pub mod Counted

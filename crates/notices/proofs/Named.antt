@@ -1,7 +1,7 @@
--- Which links a target names, in document 01's own terms.
+-- Which links a notice of each target names, in document 01's own terms.
 use mathlib.Core.Path.{_≡_, refl, sym, ap, _∙_}
 use mathlib.Core.Bool.{true, false, _&&_}
-use mathlib.Core.Logic.{_⊎_, inl, inr, ⊎-elim, _↔_}
+use mathlib.Core.Logic.{inl, inr, ⊎-elim, _↔_}
 use Prim.Native.Nat.{ℕ, zero, suc, _+_, _/_, _%_, _^_, _≤_, _<_, min}
 use native.Mathlib.Nat.{mod-lt, div-eq-of-lt, pow-suc}
 use native.Mathlib.Decide.{ℕ-discrete, decLt}
@@ -14,29 +14,33 @@ use Rattle.fabric.specs.Labels.{size, bit}
 use Rattle.fabric.specs.Links.{Code, lands}
 use Rattle.fabric.proofs.Bits.{bit-lt, bit-of-low, agree-by-bits, agree-below}
 use Rattle.fabric.proofs.Links.{each-code, minus-then-plus, plus-then-minus}
+use Rattle.notices.specs.declared.Notice.{Notice}
 use Rattle.notices.specs.declared.Target.the-variants.{Links, Switch, Pattern}
-use Rattle.notices.specs.Targets.{setHas, Input, names}
+use Rattle.notices.specs.Targets.{setHas, Input}
+use Rattle.notices.specs.Notices.{names}
 use Rattle.table.proofs.Checks.{both-hold}
 
 -- "Links: stage 0 to n-1, switch, and a set"
-pub links-names : (n stage switch s i j c : ℕ) → (names n (Links stage switch s) i j c ≡ true) ↔ ((i ≡ stage) × (j ≡ switch) × (setHas s c ≡ true))
-links-names n stage switch s i j c =
+pub links-names : (n : ℕ) (x : Notice) (stage switch s i j c : ℕ) → x .target ≡ Links stage switch s
+    → (names n x i j c ≡ true) ↔ ((i ≡ stage) × (j ≡ switch) × (setHas s c ≡ true))
+links-names n x stage switch s i j c is =
     let o = both-hold (eqb i stage && eqb j switch) (setHas s c) in
-    let p = both-hold (eqb i stage) (eqb j switch) in (
+    let p = both-hold (eqb i stage) (eqb j switch) in
+    rw is (
       (λ e. let w = o .0 e in let v = p .0 (w .0) in (eqb-true i stage (v .0), eqb-true j switch (v .1), w .1)),
       (λ w. o .1 (p .1 (eq-eqb i stage (w .0), eq-eqb j switch (w .1)), w .2)),
     )
 
 -- "plus and minus reach the same switch but are two links, stopped separately": at stage n-1 as at every other
-pub stopped-separately : (n stage switch : ℕ)
-    → (names n (Links stage switch 2) stage switch 1 ≡ true)
-    × (names n (Links stage switch 2) stage switch 2 ≡ false)
-    × (names n (Links stage switch 4) stage switch 2 ≡ true)
-    × (names n (Links stage switch 4) stage switch 1 ≡ false)
-stopped-separately n stage switch =
+pub stopped-separately : (n : ℕ) (x y : Notice) (stage switch : ℕ) → x .target ≡ Links stage switch 2 → y .target ≡ Links stage switch 4
+    → (names n x stage switch 1 ≡ true)
+    × (names n x stage switch 2 ≡ false)
+    × (names n y stage switch 2 ≡ true)
+    × (names n y stage switch 1 ≡ false)
+stopped-separately n x y stage switch plus minus =
     let e = eq-eqb stage stage refl in
     let f = eq-eqb switch switch refl in
-    (rw (e, f), rw (e, f), rw (e, f), rw (e, f))
+    (rw (plus, e, f), rw (plus, e, f), rw (minus, e, f), rw (minus, e, f))
 
 -- a switch notice names the input links that 01 lists
 module _ (n i w j : ℕ) (stage : i < n) (to : w < size n) (from : j < size n) where
@@ -52,19 +56,19 @@ module _ (n i w j : ℕ) (stage : i < n) (to : w < size n) (from : j < size n) w
         (λ v. ⊎-elim (λ u. absurd (omega arith)) (λ u. ⊎-elim (λ r. absurd (omega arith)) (λ r. ap (lands n i 2) (r .1) ∙ plus-then-minus n i stage w to) u) v),
       )
 
-  pub switch-names-inputs : (c : ℕ) → Code c → (names n (Switch (i + 1) w) i j c ≡ true) ↔ Input n i w j c
-  switch-names-inputs c h =
+  pub switch-names-inputs : (x : Notice) (c : ℕ) → x .target ≡ Switch (i + 1) w → Code c → (names n x i j c ≡ true) ↔ Input n i w j c
+  switch-names-inputs x c is h =
       let o = both-hold (eqb (i + 1) (i + 1)) (eqb (lands n i c j) w) in
       let l = lands-inputs c h in
-      ((λ e. l .0 (eqb-true (lands n i c j) w (o .0 e .1))), (λ v. o .1 (eq-eqb (i + 1) (i + 1) refl, eq-eqb (lands n i c j) w (l .1 v))))
+      rw is ((λ e. l .0 (eqb-true (lands n i c j) w (o .0 e .1))), (λ v. o .1 (eq-eqb (i + 1) (i + 1) refl, eq-eqb (lands n i c j) w (l .1 v))))
 
 -- it names links of no other stage
-pub switch-names-before : (n column w i j c : ℕ) → names n (Switch column w) i j c ≡ true → i + 1 ≡ column
-switch-names-before n column w i j c e = eqb-true (i + 1) column (both-hold (eqb (i + 1) column) (eqb (lands n i c j) w) .0 e .0)
+pub switch-names-before : (n : ℕ) (x : Notice) (column w i j c : ℕ) → x .target ≡ Switch column w → names n x i j c ≡ true → i + 1 ≡ column
+switch-names-before n x column w i j c is e = eqb-true (i + 1) column (both-hold (eqb (i + 1) column) (eqb (lands n i c j) w) .0 (rw is at e) .0)
 
 -- "Column 0 has no input links, so there it stops nothing."
-pub column-0-names-none : (n w i j c : ℕ) → names n (Switch 0 w) i j c ≡ false
-column-0-names-none n w i j c = rw (ne-eqb (i + 1) 0 (λ e. omega arith))
+pub column-0-names-none : (n : ℕ) (x : Notice) (w i j c : ℕ) → x .target ≡ Switch 0 w → names n x i j c ≡ false
+column-0-names-none n x w i j c is = rw (is, ne-eqb (i + 1) 0 (λ e. omega arith))
 
 -- bits of two numbers under `&`
 bit-of-and : (k a b : ℕ) → bit k (bitAnd a b) ≡ min (bit k a) (bit k b)
@@ -156,12 +160,13 @@ under-mask value mask j within = (there, back)
             let z : bit k mask ≡ 0 = omega arith in
             omega arith
 
-pub pattern-names-exactly : (n stage value mask s i j c : ℕ) → bitAnd value mask ≡ value
-    → (names n (Pattern stage value mask s) i j c ≡ true) ↔ ((i ≡ stage) × ((k : ℕ) → bit k mask ≡ 1 → bit k j ≡ bit k value) × (setHas s c ≡ true))
-pattern-names-exactly n stage value mask s i j c within =
+pub pattern-names-exactly : (n : ℕ) (x : Notice) (stage value mask s i j c : ℕ) → x .target ≡ Pattern stage value mask s → bitAnd value mask ≡ value
+    → (names n x i j c ≡ true) ↔ ((i ≡ stage) × ((k : ℕ) → bit k mask ≡ 1 → bit k j ≡ bit k value) × (setHas s c ≡ true))
+pattern-names-exactly n x stage value mask s i j c is within =
     let o = both-hold (eqb i stage && eqb (bitAnd j mask) value) (setHas s c) in
     let p = both-hold (eqb i stage) (eqb (bitAnd j mask) value) in
-    let u = under-mask value mask j within in (
+    let u = under-mask value mask j within in
+    rw is (
       (λ e. let w = o .0 e in let v = p .0 (w .0) in (eqb-true i stage (v .0), u .0 (eqb-true (bitAnd j mask) value (v .1)), w .1)),
       (λ w. o .1 (p .1 (eq-eqb i stage (w .0), eq-eqb (bitAnd j mask) value (u .1 (w .1))), w .2)),
     )

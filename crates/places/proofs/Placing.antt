@@ -3,16 +3,17 @@
 use mathlib.Core.Path.{_≡_, refl, sym, ap, _∙_}
 use mathlib.Core.Bool.{Bool, true, false, cond, true≢false, or-false}
 use mathlib.Core.List.{List, [], _∷_, _++_}
-use Prim.Native.Nat.{ℕ, suc, _+_, _-_, _≤_, _<_, zero-le, suc-le-suc}
+use Prim.Native.Nat.{ℕ, suc, _≤_, _<_, zero-le, suc-le-suc}
 use native.Mathlib.Decide.{ℕ-discrete, decLe}
 use native.Mathlib.Omega.{arith}
 use borrow.Author.Tests.{eq-eqb, ne-eqb, le-leb, lt-leb, lt-ltb, le-ltb}
 use lib.Dec.{eqb, leb}
 use lib.ListN.{length, take, drop, getD}
 use Rattle.notices.specs.declared.Notice.{Notice}
+use Rattle.standing.specs.Picked.{some, those}
 use Rattle.standing.specs.Rising.{stands, insert, without, Filed}
 use Rattle.places.specs.Places.{placeOf}
-use Rattle.standing.proofs.Filings.{above-stands-not}
+use Rattle.standing.proofs.Members.{above-stands-not, without-none}
 
 abbrev pub insertAt : ℕ → Notice → List Notice → List Notice
 insertAt p x l = take p l ++ x ∷ drop p l
@@ -31,7 +32,7 @@ module _ (k : ℕ) where
       least false m n h = suc-le-suc h
 
   pub place-past : (l : List Notice) → length l ≤ placeOf k l → stands k l ≡ false
-  unfolding placeOf stands
+  unfolding placeOf some
   place-past [] h = refl
   place-past (y ∷ ys) h = go (decLe k (y .number)) (place-past ys)
     where
@@ -41,15 +42,15 @@ module _ (k : ℕ) where
           let g : suc (length ys) ≤ suc (placeOf k ys) = rw (lt-leb k (y .number) (omega arith)) at h in
           rw (ne-eqb (y .number) k (λ e. t (omega arith))) (ih (omega arith))
 
-  module _ (n : ℕ) (d : Notice) where
-    pub place-stands : (m : ℕ) (l : List Notice) → Filed n m l → placeOf k l < length l → stands k l ≡ eqb (getD l (placeOf k l) d .number) k
-    unfolding placeOf stands Filed
+  module _ (bad : Notice → Bool) (d : Notice) where
+    pub place-stands : (m : ℕ) (l : List Notice) → Filed bad m l → placeOf k l < length l → stands k l ≡ eqb (getD l (placeOf k l) d .number) k
+    unfolding placeOf some Filed
     place-stands m [] f h = absurd (omega arith)
     place-stands m (y ∷ ys) f h = go (decLe k (y .number)) (place-stands (y .number) ys (f .2))
       where
         go : Dec (k ≤ y .number) → (placeOf k ys < length ys → stands k ys ≡ eqb (getD ys (placeOf k ys) d .number) k)
             → stands k (y ∷ ys) ≡ eqb (getD (y ∷ ys) (placeOf k (y ∷ ys)) d .number) k
-        go (yes t) ih = rw (le-leb k (y .number) t, above-stands-not n (y .number) k ys (f .2) t) (or-false (eqb (y .number) k))
+        go (yes t) ih = rw (le-leb k (y .number) t, above-stands-not bad (y .number) k ys (f .2) t) (or-false (eqb (y .number) k))
         go (no t) ih =
             let b = lt-leb k (y .number) (omega arith) in
             let g : suc (placeOf k ys) < suc (length ys) = rw b at h in
@@ -62,17 +63,18 @@ module _ (k : ℕ) where
       go (yes h) = absurd (true≢false (sym s ∙ place-past l h))
       go (no h) = omega arith
 
-  pub without-at : (n m : ℕ) (l : List Notice) → Filed n m l → stands k l ≡ true → without k l ≡ removeAt (placeOf k l) l
-  unfolding placeOf stands without Filed
-  without-at n m [] f s = refl
-  without-at n m (y ∷ ys) f s = go (ℕ-discrete (y .number) k) (decLe k (y .number)) (without-at n (y .number) ys (f .2))
+  pub without-at : (bad : Notice → Bool) (m : ℕ) (l : List Notice) → Filed bad m l → stands k l ≡ true → without k l ≡ removeAt (placeOf k l) l
+  unfolding placeOf some those Filed
+  without-at bad m [] f s = refl
+  without-at bad m (y ∷ ys) f s = go (ℕ-discrete (y .number) k) (decLe k (y .number)) (without-at bad (y .number) ys (f .2))
     where
       go : Dec (y .number ≡ k) → Dec (k ≤ y .number) → (stands k ys ≡ true → without k ys ≡ removeAt (placeOf k ys) ys)
           → without k (y ∷ ys) ≡ removeAt (placeOf k (y ∷ ys)) (y ∷ ys)
-      go (yes e) t ih = rw (eq-eqb (y .number) k e, le-leb k (y .number) (omega arith))
+      go (yes e) t ih =
+          rw (eq-eqb (y .number) k e, le-leb k (y .number) (omega arith)) (without-none k ys (above-stands-not bad (y .number) k ys (f .2) (omega arith)))
       go (no e) (yes t) ih =
           let z : stands k ys ≡ true = rw (ne-eqb (y .number) k e) at s in
-          absurd (true≢false (sym z ∙ above-stands-not n (y .number) k ys (f .2) t))
+          absurd (true≢false (sym z ∙ above-stands-not bad (y .number) k ys (f .2) t))
       go (no e) (no t) ih =
           let z : stands k ys ≡ true = rw (ne-eqb (y .number) k e) at s in
           rw (ne-eqb (y .number) k e, lt-leb k (y .number) (omega arith)) (ap (λ (l : List Notice). y ∷ l) (ih z))

@@ -8,6 +8,7 @@ ghost use mathlib.Core.Path.{_≡_};
 ghost use Prim.Native.Nat.{_+_, _≤_};
 ghost use lib.ListN.{take, drop};
 ghost use lib.Seq.{paste};
+ghost use Rattle.notices.specs.Notices.{unfit};
 ghost use Rattle.standing.specs.Rising.{filler, isFiller, littered, misfiled};
 ghost use Rattle.places.specs.Places.{placeOf};
 
@@ -53,7 +54,7 @@ pub fn is_filler(x: Notice) -> bool
 // Whether one of the first `count` notices is out of order, or one that filing refuses.
 pub fn misfiled(n: u8, notices: [Notice; 48], count: usize) -> bool
     requires { ⌜ (count ≤ 48) × (n ≤ 12) ⌝ }
-    ensures { λ r. ⌜ r ≡ misfiled n 0 (take count notices) ⌝ }
+    ensures { λ r. ⌜ r ≡ misfiled (unfit n) 0 (take count notices) ⌝ }
 {
     let mut last = 0;
     let mut i = 0;

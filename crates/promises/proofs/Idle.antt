@@ -1,21 +1,20 @@
 -- Each kind of controller that Worthless.antt excludes has one of that kind: what is excluded is not nothing. The idle controller says
 -- done to every change, keeps none, finds every link clear and answers 11 with stage 0 to every route.
-use mathlib.Core.Path.{_≡_, refl, ap, subst}
-use mathlib.Core.Bool.{Bool, true, false}
+use mathlib.Core.Path.{_≡_, refl, subst}
+use mathlib.Core.Bool.{true, false}
 use mathlib.Core.List.{List, [], _∷_, _++_}
 use Prim.Native.Nat.{ℕ}
 use native.Mathlib.Omega.{arith}
 use Rattle.table.specs.declared.Refusal.{Refusal}
-use Rattle.table.specs.Checks.{Passed}
 use Rattle.table.proofs.Checks.{zero-one}
 use Rattle.fabric.specs.Walks.{walked}
 use Rattle.notices.specs.declared.Notice.{Notice}
 use Rattle.notices.specs.declared.Target.the-variants.{Links}
-use Rattle.notices.specs.Targets.{names}
+use Rattle.notices.specs.Notices.{names}
 use Rattle.book.specs.declared.Book.{Book}
 use Rattle.table.specs.declared.Answer.{Answer}
 use Rattle.questions.specs.declared.Link.{Link}
-use Rattle.book.specs.Standing.{stopper}
+use Rattle.standing.specs.Picked.{lowest}
 use Rattle.book.specs.Entries.{opened}
 use Rattle.changes.specs.Runs.{Change, run}
 use Rattle.routes.specs.declared.Found.{Found}
@@ -43,7 +42,7 @@ pub some-gives-tag-zero-always : GivesTagZeroAlways idle
 some-gives-tag-zero-always b s d t e = absurd (zero-one cc)
 
 pub some-invents-a-stage : InventsAStage idle
-unfolding run stopper walked
+unfolding run lowest walked
 some-invents-a-stage =
     record {
       book = empty;
@@ -88,7 +87,7 @@ only-plus x (c ∷ before) later e = absurd (not-in-none before (Change.file x) 
 minus-unnamed : Named idle 1 (Change.file plus ∷ []) 0 0 2 → ⊥
 minus-unnamed w =
     let e = only-plus (w .0) (w .1 .before) (w .1 .later) (w .1 .order) in
-    let f : false ≡ true = subst (λ (x : Notice). names 1 (x .target) 0 0 2 ≡ true) e (w .2) in
+    let f : false ≡ true = subst (λ (x : Notice). names 1 x 0 0 2 ≡ true) e (w .2) in
     zero-one cc
 
 plus-holds : Holds idle 1 (Change.file plus ∷ []) plus

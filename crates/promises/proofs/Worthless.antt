@@ -1,7 +1,7 @@
 -- No controller of the kinds that document 01 excludes meets the demand that 01 excludes it by: one over our books whose routes, or whose
 -- filings, are those promised; and for demand 3's first half one over books of any kind that stops what is named along its own runs.
 use mathlib.Core.Path.{_≡_, refl, sym, ap, subst, _∙_}
-use mathlib.Core.Bool.{true, false}
+use mathlib.Core.Bool.{false}
 use mathlib.Core.List.{List, [], _∷_, _++_, append-assoc}
 use mathlib.Core.Logic.{⊎-elim}
 use Prim.Native.Nat.{ℕ, suc}
@@ -17,8 +17,9 @@ use Rattle.notices.specs.declared.Notice.{Notice}
 use Rattle.notices.specs.declared.Target.the-variants.{Links}
 use Rattle.book.specs.declared.Book.{Book}
 use Rattle.questions.specs.declared.Link.{Link}
-use Rattle.book.specs.Standing.{stopper, stopsOf}
-use Rattle.standing.specs.Rising.{stands, insert, misfiled, littered}
+use Rattle.book.specs.Standing.{stopsOf}
+use Rattle.standing.specs.Picked.{some, lowest}
+use Rattle.standing.specs.Rising.{insert, misfiled, littered}
 use Rattle.book.specs.Entries.{opened}
 use Rattle.changes.specs.Runs.{Change, run}
 use Rattle.routes.specs.declared.Found.{Found}
@@ -64,7 +65,7 @@ module _ (c : Controller Book) (routes : RoutesAsPromised c) where
   -- "Taking the spare link only where the stopped one starts. A stopped straight link needs an earlier turn.": examples 1 and 6 turn
   -- at switch 1 of stage 0, whose own links are clear in both
   pub not-looking-only-where-it-stands : LooksOnlyWhereItStands c → ⊥
-  unfolding run stands insert misfiled littered stopper steered walked
+  unfolding run some insert misfiled littered lowest steered walked
   not-looking-only-where-it-stands w =
       let b : Book = run (links 1 1 0 1 ∷ []) (opened 3) in
       let minus : _≡_ {A = ℕ} 2 (w .choose 3 1 0 0 1 0 0 0) = w .chosen empty 1 0 0 0 (route-once empty 1 0 _ _ (routes empty 1 0) (row-holds 0 .1)) (omega arith) in
@@ -79,7 +80,7 @@ module _ (c : Controller Book) (routes : RoutesAsPromised c) where
 
 -- by demand 1 with the table: "one that refuses every filing"
 pub not-every-filing-refused : (c : Controller Book) → FilesAsPromised c → RefusesEveryFiling c → ⊥
-unfolding run stands insert misfiled littered
+unfolding run some insert misfiled littered
 not-every-filing-refused c files refuses =
     let x : Notice = record { number = 2; target = Links 1 2 4 } in
     let w = refuses empty x in

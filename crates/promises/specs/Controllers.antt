@@ -14,7 +14,7 @@ use Rattle.fabric.specs.Walks.{switchAt}
 use Rattle.scheme.specs.Tags.{stepsOf}
 use Rattle.paths.specs.Clear.{ClearPath, StageNamed}
 use Rattle.notices.specs.declared.Notice.{Notice}
-use Rattle.notices.specs.Targets.{names}
+use Rattle.notices.specs.Notices.{names}
 use Rattle.book.specs.declared.Book.{Book}
 use Rattle.table.specs.declared.Answer.{Answer}
 use Rattle.questions.specs.declared.Link.{Link}
@@ -110,7 +110,7 @@ module _ {B : Type 0} (c : Controller B) where
 
   -- such a notice names the link
   abbrev pub Named : ℕ → List Change → ℕ → ℕ → ℕ → Type 0
-  Named n changes i j code = (x : Notice) × Holds n changes x × (names n (x .target) i j code ≡ true)
+  Named n changes i j code = (x : Notice) × Holds n changes x × (names n x i j code ≡ true)
 
   -- a link of a fabric of n stages
   abbrev pub IsLink : ℕ → ℕ → ℕ → ℕ → Type 0
@@ -133,7 +133,7 @@ module _ {B : Type 0} (c : Controller B) where
     pub switch : ℕ
     pub code : ℕ
     pub link : IsLink n stage switch code
-    pub names : names n (x .target) stage switch code ≡ true
+    pub names : names n x stage switch code ≡ true
     pub unnamed : Named n changes stage switch code → ⊥
 
   -- "one whose filings change nothing": it accepts one, and none changes what a link test says
@@ -168,7 +168,7 @@ module _ {B : Type 0} (c : Controller B) where
     pub switch : ℕ
     pub code : ℕ
     pub link : IsLink n stage switch code
-    pub still : names n (other .target) stage switch code ≡ true
+    pub still : names n other stage switch code ≡ true
     pub opens : c .link (ended n (changes ++ Change.withdraw number ∷ [])) stage switch code ≡ Link.Clear
 
   -- "Plus and minus treated as one link at the last stage.": although it accepts a filing of plus alone

@@ -17,6 +17,7 @@ use Rattle.table.proofs.Numbers.{above-zero}
 use Rattle.table.proofs.Checks.{given-refuses, passed-accepts, refused-given, passed-nth, neither, neither-of}
 use Rattle.fabric.specs.Labels.{size, outsideSizes}
 use Rattle.fabric.specs.Links.{Code}
+use Rattle.notices.specs.Notices.{unfit}
 use Rattle.standing.specs.Rising.{Filed}
 use Rattle.actions.specs.Rows.{rows}
 use Rattle.actions.proofs.Listings.{length-rows}
@@ -55,7 +56,7 @@ module _ (b : Book) (i j c : ℕ) where
       sound : unsound b ≡ false
       sound = link-lets-pass .0 passed .0
 
-      filed : Filed (b .n) 0 (standing b)
+      filed : Filed (unfit (b .n)) 0 (standing b)
       filed = sound-if b places sound .filed
 
       go : Dec (stopsOf b i j c ≡ 0)

@@ -11,6 +11,7 @@ use Rattle.table.specs.Reply.{Reply, refused}
 use Rattle.table.specs.Checks.{Given, Passed, checked, _below_}
 use Rattle.table.proofs.Checks.{given-refuses, passed-accepts, given-or-passed, passed-nth, neither}
 use Rattle.fabric.specs.Labels.{outsideSizes}
+use Rattle.notices.specs.Notices.{unfit}
 use Rattle.standing.specs.Rising.{Filed, misfiled, littered}
 use Rattle.standing.proofs.Filings.{filed-if}
 use Rattle.book.specs.declared.Book.{Book}
@@ -24,10 +25,10 @@ module _ (b : Book) (i j c : ℕ) where
   abbrev pub said : Reply
   said = Reply.accepted (cond (eqb (stopper (b .n) (standing b) i j c) 0) 0 1 ∷ [])
 
-  filed-by : Passed (linkChecks b i j c) → Filed (b .n) 0 (standing b)
+  filed-by : Passed (linkChecks b i j c) → Filed (unfit (b .n)) 0 (standing b)
   filed-by p =
-      let o = neither (outsideSizes (b .n) || 48 below b .count || misfiled (b .n) 0 (standing b)) (littered (unused b)) (passed-nth (linkChecks b i j c) 0 p) in
-      filed-if (b .n) 0 (standing b) (neither (outsideSizes (b .n) || 48 below b .count) (misfiled (b .n) 0 (standing b)) (o .0) .1)
+      let o = neither (outsideSizes (b .n) || 48 below b .count || misfiled (unfit (b .n)) 0 (standing b)) (littered (unused b)) (passed-nth (linkChecks b i j c) 0 p) in
+      filed-if (unfit (b .n)) 0 (standing b) (neither (outsideSizes (b .n) || 48 below b .count) (misfiled (unfit (b .n)) 0 (standing b)) (o .0) .1)
 
   pub says-clear : stopper (b .n) (standing b) i j c ≡ 0 → said ≡ Reply.accepted (0 ∷ [])
   says-clear e = ap (λ (s : Bool). Reply.accepted (cond s 0 1 ∷ [])) (eq-eqb (stopper (b .n) (standing b) i j c) 0 e)

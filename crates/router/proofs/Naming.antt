@@ -1,12 +1,12 @@
 -- The links on ways that a target names: all are of one stage, its own.
-use mathlib.Core.Path.{_≡_, refl, sym, ap, subst, _∙_}
+use mathlib.Core.Path.{_≡_, refl, sym, ap, _∙_}
 use mathlib.Core.Bool.{Bool, true, false, _&&_, _||_}
 use mathlib.Core.List.{List}
-use mathlib.Core.Logic.{_⊎_, ⊎-elim}
-use Prim.Native.Nat.{ℕ, _+_, _-_, _≤_, _<_}
+use mathlib.Core.Logic.{⊎-elim}
+use Prim.Native.Nat.{ℕ, _+_, _-_, _≤_}
 use native.Mathlib.Decide.{ℕ-discrete}
 use native.Mathlib.Omega.{arith}
-use borrow.Author.Tests.{eq-eqb, ne-eqb, leb-false, ltb-false}
+use borrow.Author.Tests.{eq-eqb, ne-eqb}
 use lib.Dec.{eqb}
 use lib.Bits.{bitAnd}
 use lib.ListN.{getD}
@@ -14,28 +14,13 @@ use Rattle.table.proofs.Checks.{neither}
 use Rattle.fabric.specs.Links.{lands}
 use Rattle.frontier.specs.declared.Stops.{Stops}
 use Rattle.frontier.specs.Stops.{bitOne, StageMore}
-use Rattle.notices.specs.declared.Target.{Target}
 use Rattle.notices.specs.declared.Target.the-variants.{Links, Switch, Pattern}
-use Rattle.notices.specs.Targets.{names, setHas, outsideFabric, badField, tooWide, unfit}
+use Rattle.notices.specs.Targets.{setHas}
 use Rattle.router.specs.Named.{Ways, WithTarget, WithSet}
 
 nothing-more : (b : Bool) {more : Bool} → more ≡ false → b ≡ (b || more)
 nothing-more true e = refl
 nothing-more false e = sym e
-
--- a target that filing takes lies in the fabric
-module _ (n : ℕ) where
-  in-fabric : (t : Target) → unfit n t ≡ false → outsideFabric n t ≡ false
-  in-fabric t e = neither (outsideFabric n t) (badField n t) (neither (outsideFabric n t || badField n t) (tooWide t) e .0) .0
-
-  pub links-inside : (t : Target) (stage switch set : ℕ) → unfit n t ≡ false → t ≡ Links stage switch set → stage < n
-  links-inside t stage switch set e f = leb-false n stage (neither _ _ (in-fabric (Links stage switch set) (subst (λ (u : Target). unfit n u ≡ false) f e)) .0)
-
-  pub switch-inside : (t : Target) (column switch : ℕ) → unfit n t ≡ false → t ≡ Switch column switch → column ≤ n
-  switch-inside t column switch e f = ltb-false n column (neither _ _ (in-fabric (Switch column switch) (subst (λ (u : Target). unfit n u ≡ false) f e)) .0)
-
-  pub pattern-inside : (t : Target) (stage value mask set : ℕ) → unfit n t ≡ false → t ≡ Pattern stage value mask set → stage < n
-  pattern-inside t stage value mask set e f = leb-false n stage (in-fabric (Pattern stage value mask set) (subst (λ (u : Target). unfit n u ≡ false) f e))
 
 -- a test of the switches of a stage, there and nowhere else
 module _ (labels : List ℕ) (test : ℕ → Bool) (stage : ℕ) (has : Bool) where

@@ -8,7 +8,7 @@ ghost use mathlib.Core.Path.{_≡_};
 ghost use mathlib.Core.Bool.{false};
 ghost use Prim.Native.Nat.{ℕ, _≤_, _<_};
 ghost use Rattle.notices.specs.declared.Target.the-variants.{Links, Switch, Pattern};
-ghost use Rattle.notices.specs.Targets.{unfit};
+ghost use Rattle.notices.specs.Notices.{unfit};
 ghost use Rattle.router.specs.Named.{Ways, WithTarget, WithSet};
 
 // What is stopped, with the links more that a notice names.
@@ -19,7 +19,7 @@ pub fn with_notice(
     x: Notice,
     stops: Stops,
 ) -> Stops
-    requires { ⌜ (n ≤ 12) × (unfit n (x .target) ≡ false) × Ways n (now straights) (now forks) ⌝ }
+    requires { ⌜ (n ≤ 12) × (unfit n x ≡ false) × Ways n (now straights) (now forks) ⌝ }
     ensures { λ r. ⌜ WithTarget n (now (straights .entry)) (now (forks .entry)) (x .target) stops r ⌝ }
 {
     let t = x.target;

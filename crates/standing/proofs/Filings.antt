@@ -1,33 +1,31 @@
--- Laws of lists of notices that filing accepts, by rising number.
+-- The tests of notices by rising number, and of unused places.
 use mathlib.Core.Path.{_≡_, refl, sym, ap₂}
-use mathlib.Core.Bool.{Bool, true, false, not, _&&_, _||_, true≢false}
+use mathlib.Core.Bool.{Bool, true, false, not, _&&_, true≢false}
 use mathlib.Core.List.{List, [], _∷_}
-use Prim.Native.Nat.{ℕ, zero, suc, _-_, _≤_}
-use native.Mathlib.Omega.{arith}
-use borrow.Author.Tests.{ne-eqb, lt-leb, eqb-true, leb-false}
+use Prim.Native.Nat.{ℕ, zero, suc}
+use borrow.Author.Tests.{lt-leb, eqb-true, leb-false}
 use lib.Dec.{eqb}
 use lib.ListN.{length, replicate}
 use Rattle.table.proofs.Checks.{neither, both-hold}
-use Rattle.table.specs.Checks.{_notBelow_}
 use Rattle.notices.specs.declared.Notice.{Notice}
 use Rattle.notices.specs.declared.Target.{Target}
 use Rattle.notices.specs.declared.Target.the-variants.{Links, Switch, Pattern}
-use Rattle.notices.specs.Targets.{unfit}
-use Rattle.standing.specs.Rising.{filler, stands, Filed, misfiled, isFiller, isFirstTarget, littered}
+use Rattle.standing.specs.Rising.{filler, Filed, misfiled, isFiller, isFirstTarget, littered}
 
 -- `misfiled` decides `Filed`
-pub filed-if : (n k : ℕ) (l : List Notice) → misfiled n k l ≡ false → Filed n k l
-unfolding misfiled Filed
-filed-if n k [] e = tt
-filed-if n k (x ∷ xs) e =
-    let o = neither _ _ e in
-    let p = neither _ _ (o .0) in
-    (leb-false (x .number) k (p .0), p .1, filed-if n _ xs (o .1))
+module _ (bad : Notice → Bool) where
+  pub filed-if : (k : ℕ) (l : List Notice) → misfiled bad k l ≡ false → Filed bad k l
+  unfolding misfiled Filed
+  filed-if k [] e = tt
+  filed-if k (x ∷ xs) e =
+      let o = neither _ _ e in
+      let p = neither _ _ (o .0) in
+      (leb-false (x .number) k (p .0), p .1, filed-if _ xs (o .1))
 
-pub filed-passes : (n k : ℕ) (l : List Notice) → Filed n k l → misfiled n k l ≡ false
-unfolding misfiled Filed
-filed-passes n k [] f = refl
-filed-passes n k (x ∷ xs) f = rw (lt-leb (x .number) k (f .0), f .1) (filed-passes n _ xs (f .2))
+  pub filed-passes : (k : ℕ) (l : List Notice) → Filed bad k l → misfiled bad k l ≡ false
+  unfolding misfiled Filed
+  filed-passes k [] f = refl
+  filed-passes k (x ∷ xs) f = rw (lt-leb (x .number) k (f .0), f .1) (filed-passes _ xs (f .2))
 
 -- `littered` finds anything but the filler
 pub first-target : (t : Target) → isFirstTarget t ≡ true → t ≡ Links 0 0 0
@@ -58,11 +56,3 @@ pub filler-unlittered : (n : ℕ) → littered (replicate n filler) ≡ false
 unfolding littered
 filler-unlittered zero = refl
 filler-unlittered (suc n) = filler-unlittered n
-
--- no notice stands whose number is not above where the list starts
-pub above-stands-not : (n m k : ℕ) (l : List Notice) → Filed n m l → k ≤ m → stands k l ≡ false
-unfolding stands Filed
-above-stands-not n m k [] f h = refl
-above-stands-not n m k (y ∷ ys) f h =
-    let g = f .0 in
-    rw (ne-eqb (y .number) k (λ e. omega arith)) (above-stands-not n (y .number) k ys (f .2) (omega arith))

@@ -1,3 +1,5 @@
 pub mod Distinct
+pub mod Picked
 pub mod Filings
 pub mod Members
+pub mod Lowest

@@ -9,17 +9,23 @@ use Rattle.table.specs.Checks.{_below_, _notBelow_}
 use Rattle.notices.specs.declared.Notice.{Notice}
 use Rattle.notices.specs.declared.Target.{Target}
 use Rattle.notices.specs.declared.Target.the-variants.{Links, Switch, Pattern}
-use Rattle.notices.specs.Targets.{unfit}
+use Rattle.standing.specs.Picked.{some, those}
 
 -- What an unused place of the array holds. Not document 01's: any notice would do, since no place after those in use is read
 -- as a notice.
 abbrev pub filler : Notice
 filler = record { number = 0; target = Links 0 0 0 }
 
+-- whether a notice has this number, and whether it has another
+abbrev pub numbered : ℕ → Notice → Bool
+numbered k x = eqb (x .number) k
+
+abbrev pub otherThan : ℕ → Notice → Bool
+otherThan k x = not (numbered k x)
+
 -- whether a notice of this number stands: exactly where one of the list has it (`stands-member`, `member-stands`, proofs/Members)
-unfoldable pub stands : ℕ → List Notice → Bool
-stands k [] = false
-stands k (x ∷ xs) = eqb (x .number) k || stands k xs
+abbrev pub stands : ℕ → List Notice → Bool
+stands k l = some (numbered k) l
 
 -- The list with a notice more, after those of lower number. It has that one, those that it had and no other: `insert-has`,
 -- `insert-keeps`, `insert-member`; and stays by rising number: `insert-filed` (proofs/Members).
@@ -29,21 +35,19 @@ insert x (y ∷ ys) = cond (y .number below x .number) (y ∷ insert x ys) (x �
 
 -- The list without the notice of this number: all the others stay and it is gone, `without-keeps`, `without-member`
 -- (proofs/Members).
-unfoldable pub without : ℕ → List Notice → List Notice
-without k [] = []
-without k (x ∷ xs) = cond (eqb (x .number) k) xs (x ∷ without k xs)
+abbrev pub without : ℕ → List Notice → List Notice
+without k l = those (otherThan k) l
 
--- Notices that filing accepts in a fabric of n stages, by rising number, all numbers above k. `filed-exactly` says it of the
--- list's places (proofs/Members).
-unfoldable pub Filed : ℕ → ℕ → List Notice → Type 0
-Filed n k [] = Unit
-Filed n k (x ∷ xs) = (k < x .number) × (unfit n (x .target) ≡ false) × Filed n (x .number) xs
+-- Notices of which none is bad, by rising number, all numbers above k. `filed-exactly` says it of the list's places (proofs/Members). Of
+-- a fabric of n stages `unfit n` is bad: what filing refuses.
+unfoldable pub Filed : (Notice → Bool) → ℕ → List Notice → Type 0
+Filed bad k [] = Unit
+Filed bad k (x ∷ xs) = (k < x .number) × (bad x ≡ false) × Filed bad (x .number) xs
 
--- some notice of the list is out of order, or is one that filing refuses: it is not `Filed` (`filed-if`, `filed-passes`,
--- proofs/Filings)
-unfoldable pub misfiled : ℕ → ℕ → List Notice → Bool
-misfiled n k [] = false
-misfiled n k (x ∷ xs) = k notBelow x .number || unfit n (x .target) || misfiled n (x .number) xs
+-- some notice of the list is out of order, or bad: it is not `Filed` (`filed-if`, `filed-passes`, proofs/Filings)
+unfoldable pub misfiled : (Notice → Bool) → ℕ → List Notice → Bool
+misfiled bad k [] = false
+misfiled bad k (x ∷ xs) = k notBelow x .number || bad x || misfiled bad (x .number) xs
 
 -- whether a target is the filler's (`first-target`, proofs/Filings)
 abbrev pub isFirstTarget : Target → Bool

@@ -1,10 +1,11 @@
-// Document 01, 'Notices': which links a target names, and the checks 4, 5 and 6 of a target.
+// Document 01, 'Notices': which links a notice names, and the checks 4, 5 and 6 of a notice.
 use notices::Notice;
 use notices::Target;
 ghost use mathlib.Core.Path.{_≡_};
 ghost use Prim.Native.Nat.{_≤_, _<_};
 ghost use Rattle.fabric.specs.Labels.{size};
-ghost use Rattle.notices.specs.Targets.{setHas, names, outsideFabric, badSet, badField, tooWide, unfit};
+ghost use Rattle.notices.specs.Targets.{setHas, badSet};
+ghost use Rattle.notices.specs.Notices.{names, outsideFabric, badField, tooWide, unfit};
 
 // Whether a set has the link of a code.
 fn set_has(set: u8, code: u8) -> bool
@@ -17,7 +18,7 @@ fn set_has(set: u8, code: u8) -> bool
 // Whether a notice names the link of a code that leaves a switch at a stage.
 pub fn names(n: u8, x: Notice, stage: u8, switch: u16, code: u8) -> bool
     requires { ⌜ (n ≤ 12) × (stage < n) × (switch < size n) × (code < 3) ⌝ }
-    ensures { λ r. ⌜ r ≡ names n (x .target) stage switch code ⌝ }
+    ensures { λ r. ⌜ r ≡ names n x stage switch code ⌝ }
 {
     let t = x.target;
     match t {
@@ -45,7 +46,7 @@ pub fn names(n: u8, x: Notice, stage: u8, switch: u16, code: u8) -> bool
 // 4
 pub fn outside_fabric(n: u8, x: Notice) -> bool
     requires { ⌜ n ≤ 12 ⌝ }
-    ensures { λ r. ⌜ r ≡ outsideFabric n (x .target) ⌝ }
+    ensures { λ r. ⌜ r ≡ outsideFabric n x ⌝ }
 {
     let t = x.target;
     match t {
@@ -76,7 +77,7 @@ fn bad_set(set: u8) -> bool
 // 5
 pub fn bad_field(n: u8, x: Notice) -> bool
     requires { ⌜ n ≤ 12 ⌝ }
-    ensures { λ r. ⌜ r ≡ badField n (x .target) ⌝ }
+    ensures { λ r. ⌜ r ≡ badField n x ⌝ }
 {
     let t = x.target;
     match t {
@@ -105,7 +106,7 @@ pub fn bad_field(n: u8, x: Notice) -> bool
 
 // 6
 pub fn too_wide(x: Notice) -> bool
-    ensures { λ r. ⌜ r ≡ tooWide (x .target) ⌝ }
+    ensures { λ r. ⌜ r ≡ tooWide x ⌝ }
 {
     let t = x.target;
     match t {
@@ -127,10 +128,10 @@ pub fn too_wide(x: Notice) -> bool
     }
 }
 
-// Whether filing refuses the target for itself.
+// Whether filing refuses the notice for itself.
 pub fn unfit(n: u8, x: Notice) -> bool
     requires { ⌜ n ≤ 12 ⌝ }
-    ensures { λ r. ⌜ r ≡ unfit n (x .target) ⌝ }
+    ensures { λ r. ⌜ r ≡ unfit n x ⌝ }
 {
     table::either(
         table::either(outside_fabric(n, x), bad_field(n, x)),

@@ -5,6 +5,7 @@ use native.Mathlib.Omega.{arith}
 use borrow.Author.Needs.{needs}
 use lib.ListN.{length, take, drop}
 use Rattle.standing.specs.Rising.{filler}
+use Rattle.standing.specs.Picked.{lowest}
 use Rattle.book.specs.Standing.{stopper}
 use Rattle.places.proofs.Arrays.{length-mapped, next-of, none-left-of}
 use Rattle.asked.proofs.stopper.Statement.{statement}
@@ -32,7 +33,7 @@ names-requires : tie.Need-names-requires Inv-loop μ-loop
 names-requires c κs = search needs
 
 returns : tie.Need-returns Inv-loop μ-loop
-unfolding stopper
+unfolding lowest
 returns c =
     let a = c .before .before .before .before .before .args in
     let v = c .before .before .before .before .loop in
@@ -45,7 +46,7 @@ loop-less : tie.Need-loop-less Inv-loop μ-loop
 loop-less c = search needs
 
 loop-again : tie.Need-loop-again Inv-loop μ-loop
-unfolding stopper
+unfolding lowest
 loop-again c =
     let a = c .before .before .before .before .before .args in
     let v = c .before .before .before .before .loop in (
@@ -55,7 +56,7 @@ loop-again c =
     )
 
 returns-2 : tie.Need-returns-2 Inv-loop μ-loop
-unfolding stopper
+unfolding lowest
 returns-2 c =
     let v = c .before .loop in
     rw (v .inv .2, none-left-of (c .before .before .args .t1 .count) (c .before .before .args .t1 .notices) (v .i) (v .inv .1) (omega arith))

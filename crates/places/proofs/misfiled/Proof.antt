@@ -5,6 +5,7 @@ use native.Mathlib.Omega.{arith}
 use borrow.Author.Tests.{le-leb, lt-leb}
 use borrow.Author.Needs.{needs}
 use lib.ListN.{length, take, drop, getD}
+use Rattle.notices.specs.Notices.{unfit}
 use Rattle.standing.specs.Rising.{filler, misfiled}
 use Rattle.places.proofs.Arrays.{next-of, none-left-of}
 use Rattle.places.proofs.misfiled.Statement.{statement}
@@ -12,7 +13,7 @@ use Rattle.places.proofs.misfiled.Tie as tie
 
 abbrev Inv-loop : tie.InvT-loop
 Inv-loop n count notices last₀ i₀ last i =
-    (i ≤ count) × (count ≤ length notices) × (misfiled n 0 (take count notices) ≡ misfiled n last (drop i (take count notices)))
+    (i ≤ count) × (count ≤ length notices) × (misfiled (unfit n) 0 (take count notices) ≡ misfiled (unfit n) last (drop i (take count notices)))
 
 abbrev μ-loop : tie.MeasureT-loop
 μ-loop n count notices last₀ i₀ last i = count - i

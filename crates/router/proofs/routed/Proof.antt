@@ -2,16 +2,16 @@
 -- standing notices name.
 use mathlib.Core.Path.{_≡_, sym, ap, subst, _∙_}
 use mathlib.Core.Bool.{Bool, _||_}
-use mathlib.Core.List.{List, _∷_}
-use Prim.Native.Nat.{ℕ, _+_, _-_, _≤_, _<_}
+use mathlib.Core.List.{List}
+use Prim.Native.Nat.{ℕ, _-_, _≤_, _<_}
 use native.Mathlib.Omega.{arith}
 use borrow.Author.Needs.{needs}
-use lib.ListN.{length, drop, getD}
+use lib.ListN.{length, drop}
 use Rattle.table.specs.Checks.{_notBelow_}
 use Rattle.fabric.specs.Labels.{size}
 use Rattle.frontier.specs.declared.Stops.{Stops}
-use Rattle.frontier.specs.Columns.{straightAt, forkAt}
 use Rattle.notices.specs.declared.Notice.{Notice}
+use Rattle.notices.specs.Notices.{unfit}
 use Rattle.standing.specs.Rising.{Filed, filler}
 use Rattle.places.proofs.Arrays.{length-mapped, next-of, none-left-of}
 use Rattle.book.specs.declared.Book.{Book}
@@ -87,7 +87,7 @@ with-notice-requires c κs =
     let w = v .inv in
     let e = next-of (b .count) (b .notices) filler (v .k) (w .places) (search needs) in
     let filed = w .told .filed in
-    let rest = subst (Filed (b .n) (filed .0)) e (filed .1) in
+    let rest = subst (Filed (unfit (b .n)) (filed .0)) e (filed .1) in
     (s .pre .few, head-fit (b .n) (filed .0) _ _ rest, ways-of (b .n) (s .args .source) (s .args .destination) (w .source-label) _ (c .before .before .before .before .before .before .before .before .columns-between .ensures))
 
 add-k : tie.Need-add-k Inv-loop μ-loop

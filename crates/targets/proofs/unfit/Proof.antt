@@ -1,4 +1,4 @@
--- The three tests of a target, joined.
+-- The three tests of a notice, joined.
 use borrow.Author.Needs.{needs}
 use Rattle.targets.proofs.unfit.Statement.{statement}
 use Rattle.targets.proofs.unfit.Tie as tie

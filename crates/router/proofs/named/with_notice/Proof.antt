@@ -1,7 +1,7 @@
 -- By the kinds of targets.
 use native.Mathlib.Omega.{arith}
 use borrow.Author.Needs.{needs}
-use Rattle.router.proofs.Naming.{links-inside, switch-inside, pattern-inside}
+use Rattle.notices.proofs.Fit.{links-fit, switch-fit, pattern-fit}
 use Rattle.router.proofs.named.with_notice.Statement.{statement}
 use Rattle.router.proofs.named.with_notice.Tie as tie
 
@@ -11,7 +11,7 @@ enum-known-t c = search needs
 with-links-requires : tie.Need-with-links-requires
 with-links-requires c κs =
     let s = c .before .before .before in
-    let h = links-inside (s .args .n) (s .args .x .target) _ _ _ (s .pre .1) (c .before .t .given .1) in
+    let h = links-fit (s .args .n) (s .args .x) _ _ _ (c .before .t .given .1) .0 (s .pre .1) .0 in
     omega arith
 
 enum-known-t-2 : tie.Need-enum-known-t-2
@@ -20,7 +20,7 @@ enum-known-t-2 c = search needs
 with-switch-requires : tie.Need-with-switch-requires
 with-switch-requires c κs =
     let s = c .before .before .before in
-    (s .pre .0, switch-inside (s .args .n) (s .args .x .target) _ _ (s .pre .1) (c .before .t2 .given .1), s .pre .2)
+    (s .pre .0, switch-fit (s .args .n) (s .args .x) _ _ (c .before .t2 .given .1) .0 (s .pre .1) .0, s .pre .2)
 
 enum-known-t-3 : tie.Need-enum-known-t-3
 enum-known-t-3 c = search needs
@@ -28,7 +28,7 @@ enum-known-t-3 c = search needs
 with-pattern-requires : tie.Need-with-pattern-requires
 with-pattern-requires c κs =
     let s = c .before .before .before in
-    let h = pattern-inside (s .args .n) (s .args .x .target) _ _ _ _ (s .pre .1) (c .before .t3 .given .1) in
+    let h = pattern-fit (s .args .n) (s .args .x) _ _ _ _ (c .before .t3 .given .1) .0 (s .pre .1) .0 in
     omega arith
 
 returns : tie.Need-returns
