@@ -1,13 +1,13 @@
 // The action reader for C and Rust: which action a part holds, and its seven fields written into lent memory.
 use actions::Action;
-use packer::BYTE;
 use packer::refused;
+use packer::value;
 use table::Refusal;
 ghost use mathlib.Core.Path.{_≡_};
-ghost use Prim.Native.Nat.{_*_, _≤_};
+ghost use Prim.Native.Nat.{_≤_};
 ghost use mathlib.Core.List.{_++_};
 ghost use lib.ListN.{length, drop};
-ghost use Rattle.packing.specs.Packed.{byte, packed};
+ghost use Rattle.packing.specs.Packed.{packed};
 ghost use Rattle.actions.specs.Layout.{actionLength};
 ghost use Rattle.actions.specs.Format.{fieldsOf};
 ghost use Rattle.fields.specs.Fields.{kindSays, inOrder, ReadsFields};
@@ -18,12 +18,12 @@ pub fn kind(action: Action) -> u64
     ensures { λ r. ⌜ r ≡ packed (kindSays action) ⌝ }
 {
     match action {
-        Action::File(_) => BYTE,
-        Action::Withdraw(_) => 2 * BYTE,
+        Action::File(_) => value(1),
+        Action::Withdraw(_) => value(2),
         Action::Route {
             source: _,
             destination: _,
-        } => 3 * BYTE,
+        } => value(3),
         Action::Refused(why) => refused(why),
     }
 }
@@ -52,7 +52,7 @@ fn written(part: &[u8], memory: &mut [u16]) -> u64
         return refused(Refusal::Room);
     }
     write(part, memory);
-    value(part[0])
+    value(wide(part[0]) as u64)
 }
 
 // The seven fields, in 01's order.
@@ -67,13 +67,6 @@ fn write(part: &[u8], memory: &mut [u16])
     memory[4] = action_bytes::word_at(part, 5);
     memory[5] = action_bytes::word_at(part, 7);
     memory[6] = wide(part[9]);
-}
-
-// Where the value stands in an answer.
-fn value(x: u8) -> u64
-    ensures { λ r. ⌜ r ≡ byte * x ⌝ }
-{
-    BYTE * x as u64
 }
 
 fn wide(x: u8) -> u16

@@ -10,7 +10,7 @@ use tags::Tag;
 use walks::Ended;
 ghost use Rattle.table.specs.Reply.{answerSays};
 ghost use mathlib.Core.Path.{_≡_};
-ghost use Prim.Native.Nat.{ℕ, _≤_};
+ghost use Prim.Native.Nat.{ℕ, _*_, _^_, _≤_, _<_};
 ghost use Rattle.tags.specs.Entries.{tagSays};
 ghost use Rattle.questions.specs.Entries.{linkSays, listingSays};
 ghost use Rattle.walks.specs.Entries.{walkSays};
@@ -18,7 +18,7 @@ ghost use Rattle.routes.specs.Routed.{routeSays};
 ghost use Rattle.sheet.specs.Entries.{headerSays};
 ghost use Rattle.printed.specs.Runs.{mostRoom, ranSays};
 ghost use Rattle.table.specs.Numbers.{numberOf};
-ghost use Rattle.packing.specs.Packed.{packed};
+ghost use Rattle.packing.specs.Packed.{byte, packed};
 
 // What fits a byte.
 pub const BYTE: u64 = 256;
@@ -30,11 +30,19 @@ pub fn refused(why: Refusal) -> u64
     table::number(why) as u64
 }
 
+// A value that comes with 0, the table's number of a call that was accepted.
+pub fn value(x: u64) -> u64
+    requires { ⌜ x < 2 ^ 56 ⌝ }
+    ensures { λ r. ⌜ r ≡ byte * x ⌝ }
+{
+    BYTE * x
+}
+
 pub fn tag_told(answer: Tag) -> u64
     ensures { λ r. ⌜ r ≡ packed (tagSays answer) ⌝ }
 {
     match answer {
-        Tag::Normal(tag) => BYTE * tag as u64,
+        Tag::Normal(tag) => value(tag as u64),
         Tag::Refused(why) => refused(why),
     }
 }
@@ -53,7 +61,7 @@ pub fn link_told(answer: Link) -> u64
 {
     match answer {
         Link::Clear => 0,
-        Link::Stopped => BYTE,
+        Link::Stopped => value(1),
         Link::Refused(why) => refused(why),
     }
 }
@@ -63,7 +71,7 @@ pub fn listed(answer: Listing) -> u64
     ensures { λ r. ⌜ r ≡ packed (listingSays answer) ⌝ }
 {
     match answer {
-        Listing::Listed(count) => BYTE * count as u64,
+        Listing::Listed(count) => value(count as u64),
         Listing::Refused(why) => refused(why),
     }
 }
@@ -73,7 +81,7 @@ pub fn ended(answer: Ended) -> u64
 {
     match answer {
         Ended::Clear => 0,
-        Ended::Stopped(stage) => 11 + BYTE * stage as u64,
+        Ended::Stopped(stage) => 11 + value(stage as u64),
         Ended::Astray => 17,
         Ended::Refused(why) => refused(why),
     }
@@ -83,8 +91,8 @@ pub fn found(answer: Found) -> u64
     ensures { λ r. ⌜ r ≡ packed (routeSays answer) ⌝ }
 {
     match answer {
-        Found::Tag(tag) => BYTE * tag as u64,
-        Found::None(stage) => 11 + BYTE * stage as u64,
+        Found::Tag(tag) => value(tag as u64),
+        Found::None(stage) => 11 + value(stage as u64),
         Found::Refused(why) => refused(why),
     }
 }
@@ -93,7 +101,7 @@ pub fn header_told(answer: Header) -> u64
     ensures { λ r. ⌜ r ≡ packed (headerSays answer) ⌝ }
 {
     match answer {
-        Header::Sheet { n, count } => BYTE * (n as u64 + BYTE * count as u64),
+        Header::Sheet { n, count } => value(n as u64 + BYTE * count as u64),
         Header::Refused(why) => refused(why),
     }
 }
@@ -103,7 +111,7 @@ pub fn ran(answer: Ran) -> u64
     ensures { λ r. ⌜ r ≡ packed (ranSays answer) ⌝ }
 {
     match answer {
-        Ran::Printed(bytes) => BYTE * bytes as u64,
+        Ran::Printed(bytes) => value(bytes as u64),
         Ran::Refused(why) => refused(why),
     }
 }

@@ -14,8 +14,14 @@ returns c = room-short (omega arith) (c .refused .ensures)
 write-requires : tie.Need-write-requires
 write-requires c κs = search needs
 
-shared-slice-read-value : tie.Need-shared-slice-read-value
-shared-slice-read-value c = search needs
+shared-slice-read-wide : tie.Need-shared-slice-read-wide
+shared-slice-read-wide c = search needs
+
+wide-requires : tie.Need-wide-requires
+wide-requires c κs = search needs
+
+cast-value : tie.Need-cast-value
+cast-value c = search needs
 
 value-requires : tie.Need-value-requires
 value-requires c κs = search needs
@@ -24,7 +30,8 @@ same-length : tie.Need-same-length
 same-length c = search needs
 
 returns-2 : tie.Need-returns-2
-returns-2 c = room-enough (omega arith) (c .value .ensures) (c .before .before .before .before .write .ensures)
+returns-2 c =
+    room-enough (omega arith) (rw (c .value .ensures, c .before .wide .ensures)) (c .before .before .before .before .before .write .ensures)
 
 pub written-spec : {M : Type 1} → statement M
 written-spec =
@@ -33,7 +40,9 @@ written-spec =
     refused-requires
     returns
     write-requires
-    shared-slice-read-value
+    shared-slice-read-wide
+    wide-requires
+    cast-value
     value-requires
     same-length
     returns-2)

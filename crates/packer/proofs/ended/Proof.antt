@@ -9,11 +9,11 @@ enum-told c = search needs
 enum-known-answer : tie.Need-enum-known-answer
 enum-known-answer c = search needs
 
-cast-result : tie.Need-cast-result
-cast-result c = search needs
+cast-value : tie.Need-cast-value
+cast-value c = search needs
 
-mul-result : tie.Need-mul-result
-mul-result c = search needs
+value-requires : tie.Need-value-requires
+value-requires c κs = search needs
 
 add-result : tie.Need-add-result
 add-result c = search needs
@@ -31,13 +31,13 @@ returns : tie.Need-returns
 returns c = search needs
 
 returns-2 : tie.Need-returns-2
-returns-2 c = rw (c .before .answer .given .1)
+returns-2 c = rw (c .value .ensures, c .before .before .answer .given .1)
 
 returns-3 : tie.Need-returns-3
 returns-3 c = search needs
 
 returns-4 : tie.Need-returns-4
-returns-4 c = rw (c .refused .ensures, c .before .before .answer2 .given .1)
+returns-4 c = search needs
 
 pub ended-spec : {M : Type 1} → statement M
 ended-spec =
@@ -45,8 +45,8 @@ ended-spec =
     (tie.spec
     enum-told
     enum-known-answer
-    cast-result
-    mul-result
+    cast-value
+    value-requires
     add-result
     enum-told-2
     enum-known-answer-2

@@ -1,5 +1,4 @@
 -- The number of each case.
-use native.Mathlib.Omega.{arith}
 use borrow.Author.Needs.{needs}
 use Rattle.packer.proofs.found.Statement.{statement}
 use Rattle.packer.proofs.found.Tie as tie
@@ -7,20 +6,20 @@ use Rattle.packer.proofs.found.Tie as tie
 enum-known-answer : tie.Need-enum-known-answer
 enum-known-answer c = search needs
 
-cast-result : tie.Need-cast-result
-cast-result c = search needs
+cast-value : tie.Need-cast-value
+cast-value c = search needs
 
-mul-result : tie.Need-mul-result
-mul-result c = search needs
+value-requires : tie.Need-value-requires
+value-requires c κs = search needs
 
 enum-known-answer-2 : tie.Need-enum-known-answer-2
 enum-known-answer-2 c = search needs
 
-cast-result-2 : tie.Need-cast-result-2
-cast-result-2 c = search needs
+cast-value-2 : tie.Need-cast-value-2
+cast-value-2 c = search needs
 
-mul-result-2 : tie.Need-mul-result-2
-mul-result-2 c = search needs
+value-requires-2 : tie.Need-value-requires-2
+value-requires-2 c κs = search needs
 
 add-result : tie.Need-add-result
 add-result c = search needs
@@ -32,24 +31,24 @@ refused-requires : tie.Need-refused-requires
 refused-requires c κs = search needs
 
 returns : tie.Need-returns
-returns c = rw (c .before .answer .given .1)
+returns c = rw (c .value .ensures, c .before .before .answer .given .1)
 
 returns-2 : tie.Need-returns-2
-returns-2 c = rw (c .before .answer2 .given .1) (omega arith)
+returns-2 c = rw (c .value2 .ensures, c .before .before .answer2 .given .1)
 
 returns-3 : tie.Need-returns-3
-returns-3 c = rw (c .refused .ensures, c .before .before .answer3 .given .1)
+returns-3 c = search needs
 
 pub found-spec : {M : Type 1} → statement M
 found-spec =
     tie.close
     (tie.spec
     enum-known-answer
-    cast-result
-    mul-result
+    cast-value
+    value-requires
     enum-known-answer-2
-    cast-result-2
-    mul-result-2
+    cast-value-2
+    value-requires-2
     add-result
     enum-known-answer-3
     refused-requires

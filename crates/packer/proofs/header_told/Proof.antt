@@ -6,20 +6,20 @@ use Rattle.packer.proofs.header_told.Tie as tie
 enum-known-answer : tie.Need-enum-known-answer
 enum-known-answer c = search needs
 
-cast-result : tie.Need-cast-result
-cast-result c = search needs
+cast-value : tie.Need-cast-value
+cast-value c = search needs
 
-cast-result-2 : tie.Need-cast-result-2
-cast-result-2 c = search needs
+cast-value-2 : tie.Need-cast-value-2
+cast-value-2 c = search needs
 
-mul-result : tie.Need-mul-result
-mul-result c = search needs
+mul-value : tie.Need-mul-value
+mul-value c = search needs
 
-add-result : tie.Need-add-result
-add-result c = search needs
+add-value : tie.Need-add-value
+add-value c = search needs
 
-mul-result-2 : tie.Need-mul-result-2
-mul-result-2 c = search needs
+value-requires : tie.Need-value-requires
+value-requires c κs = search needs
 
 enum-known-answer-2 : tie.Need-enum-known-answer-2
 enum-known-answer-2 c = search needs
@@ -28,21 +28,21 @@ refused-requires : tie.Need-refused-requires
 refused-requires c κs = search needs
 
 returns : tie.Need-returns
-returns c = rw (c .before .answer .given .1)
+returns c = rw (c .value .ensures, c .before .before .answer .given .1)
 
 returns-2 : tie.Need-returns-2
-returns-2 c = rw (c .refused .ensures, c .before .before .answer2 .given .1)
+returns-2 c = search needs
 
 pub header-told-spec : {M : Type 1} → statement M
 header-told-spec =
     tie.close
     (tie.spec
     enum-known-answer
-    cast-result
-    cast-result-2
-    mul-result
-    add-result
-    mul-result-2
+    cast-value
+    cast-value-2
+    mul-value
+    add-value
+    value-requires
     enum-known-answer-2
     refused-requires
     returns

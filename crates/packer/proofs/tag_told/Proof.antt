@@ -6,11 +6,11 @@ use Rattle.packer.proofs.tag_told.Tie as tie
 enum-known-answer : tie.Need-enum-known-answer
 enum-known-answer c = search needs
 
-cast-result : tie.Need-cast-result
-cast-result c = search needs
+cast-value : tie.Need-cast-value
+cast-value c = search needs
 
-mul-result : tie.Need-mul-result
-mul-result c = search needs
+value-requires : tie.Need-value-requires
+value-requires c κs = search needs
 
 enum-known-answer-2 : tie.Need-enum-known-answer-2
 enum-known-answer-2 c = search needs
@@ -19,18 +19,18 @@ refused-requires : tie.Need-refused-requires
 refused-requires c κs = search needs
 
 returns : tie.Need-returns
-returns c = rw (c .before .answer .given .1)
+returns c = rw (c .value .ensures, c .before .before .answer .given .1)
 
 returns-2 : tie.Need-returns-2
-returns-2 c = rw (c .refused .ensures, c .before .before .answer2 .given .1)
+returns-2 c = search needs
 
 pub tag-told-spec : {M : Type 1} → statement M
 tag-told-spec =
     tie.close
     (tie.spec
     enum-known-answer
-    cast-result
-    mul-result
+    cast-value
+    value-requires
     enum-known-answer-2
     refused-requires
     returns
