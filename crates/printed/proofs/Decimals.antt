@@ -2,12 +2,12 @@
 use mathlib.Core.Path.{_≡_, refl, ap, _∙_}
 use mathlib.Core.Bool.{false}
 use mathlib.Core.List.{List, [], _∷_, _++_}
-use Prim.Native.Nat.{ℕ, zero, suc, _+_, _-_, _*_, _/_, _%_, _^_, _≤_, _<_}
-use native.Mathlib.Nat.{pow-suc, zero-add}
+use Prim.Native.Nat.{ℕ, zero, suc, _+_, _-_, _*_, _/_, _%_, _≤_, _<_}
+use native.Mathlib.Nat.{zero-add}
 use native.Mathlib.Decide.{decLt}
 use native.Mathlib.Omega.{arith}
 use borrow.Author.Tests.{lt-ltb, le-ltb}
-use lib.ListN.{length, getD, length-append}
+use lib.ListN.{length, getD}
 use Rattle.fabric.specs.Labels.{bit}
 use Rattle.table.specs.Checks.{_below_}
 use Rattle.printed.specs.Words.{ascii, decimalIn, decimal, bitsFrom, tagBits}
@@ -39,26 +39,6 @@ pub decimal-more : (x : ℕ) → 10 ≤ x → decimal x ≡ decimal (x / 10) ++ 
 unfolding decimalIn
 decimal-more x h =
     rw (le-ltb x 10 h) (ap (λ (l : List ℕ). l ++ (48 + x % 10) ∷ []) (most-any x (suc (x / 10)) (x / 10) (omega arith) (omega arith)))
-
-pub length-more : (x : ℕ) → 10 ≤ x → length (decimal x) ≡ length (decimal (x / 10)) + 1
-length-more x h = ap length (decimal-more x h) ∙ length-append (decimal (x / 10)) ((48 + x % 10) ∷ [])
-
--- a number below 10^k has at most k digits
-pub digits-few : (k x : ℕ) → x < 10 ^ suc k → length (decimal x) ≤ suc k
-digits-few zero x h = let e = ap length (decimal-one x (omega arith)) in omega arith
-digits-few (suc k) x h =
-    let p = pow-suc 10 (suc k) in
-    go (decLt x 10) (λ d. digits-few k (x / 10) (omega arith))
-  where
-    go : Dec (x < 10) → (10 ≤ x → length (decimal (x / 10)) ≤ suc k) → length (decimal x) ≤ suc (suc k)
-    go (yes d) on = let e = ap length (decimal-one x d) in omega arith
-    go (no d) on =
-        let i = on (omega arith) in
-        let m = length-more x (omega arith) in
-        omega arith
-
-pub at-most-five : (x : ℕ) → x < 65536 → length (decimal x) ≤ 5
-at-most-five x h = digits-few 4 x (omega arith)
 
 -- "bits .. in that order"
 pub length-bits : (i left x : ℕ) → length (bitsFrom i left x) ≡ left

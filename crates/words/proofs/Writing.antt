@@ -5,8 +5,8 @@ use Prim.Native.Nat.{ℕ, _+_, _≤_, _<_}
 use native.Mathlib.Nat.{add-zero, zero-add}
 use native.Mathlib.Numerals.{add-one}
 use native.Mathlib.Omega.{arith}
-use lib.ListN.{length, take, drop, set, length-append, length-drop}
-use lib.Seq.{paste, paste-zero, take-all, take-at, drop-append-add, drop-drop, length-take-le, append-snoc, set-split}
+use lib.ListN.{length, take, drop, set, getD, length-append, length-drop}
+use lib.Seq.{paste, paste-zero, take-all, take-at, drop-append-add, drop-drop, length-take-le, take-suc, append-snoc, set-split, set-at}
 use Rattle.words.specs.Wrote.{Wrote}
 
 module _ (before : List ℕ) (at : ℕ) (fits : at ≤ length before) where
@@ -66,6 +66,27 @@ module _ (before : List ℕ) (at : ℕ) (fits : at ≤ length before) where
       let rest = length-drop (at + length text) before in
       let ends = w .ends in
       ap length (w .leaves) ∙ length-append (take at before ++ text) (drop (at + length text) before) ∙ omega arith
+
+-- a byte before a text
+pub wrote-before : (before : List ℕ) (i x : ℕ) {text after : List ℕ} {next : ℕ} → i < length before → Wrote before (i + 1) text after next → Wrote before i (x ∷ text) (set after i x) next
+wrote-before before i x {text} {after} {next} within w =
+    let front : List ℕ = take i before in
+    let y : ℕ = getD before i 0 in
+    let rest : List ℕ = drop (i + length (x ∷ text)) before in
+    let here : take (i + 1) before ≡ front ++ (y ∷ []) = ap (λ (k : ℕ). take k before) (add-one i) ∙ take-suc before i 0 within in
+    let there : drop (i + 1 + length text) before ≡ rest = ap (λ (k : ℕ). drop k before) {x = i + 1 + length text} {y = i + length (x ∷ text)} (omega arith) in
+    let e : after ≡ front ++ y ∷ (text ++ rest) =
+    w .leaves
+    ∙ ap₂ (λ (l m : List ℕ). l ++ text ++ m) here there
+    ∙ append-assoc (front ++ (y ∷ [])) text rest
+    ∙ append-snoc front y (text ++ rest) in
+    record {
+      leaves =
+          ap (λ (l : List ℕ). set l i x) e
+          ∙ set-at front y (text ++ rest) x i (length-take-le i before (omega arith))
+          ∙ sym (append-assoc front (x ∷ text) rest);
+      ends = let f = w .ends in omega arith;
+    }
 
 -- a text written at the front
 pub wrote-front : {before text after : List ℕ} {next : ℕ} → Wrote before 0 text after next → after ≡ text ++ drop (length text) before

@@ -1,1 +1,2 @@
+pub mod LastDigits
 pub mod Wrote

@@ -6,6 +6,7 @@ ghost use mathlib.Core.List.{[], _++_};
 ghost use Prim.Native.Nat.{_+_, _≤_};
 ghost use lib.ListN.{length};
 ghost use Rattle.printed.specs.Words.{decimal, bitsFrom, ending, refusal};
+ghost use Rattle.words.specs.LastDigits.{lastDigits, Reaches};
 ghost use Rattle.words.specs.Wrote.{Wrote};
 
 pub fn word(out: &mut [u8], at: usize, text: &[u8]) -> usize
@@ -20,25 +21,37 @@ pub fn word(out: &mut [u8], at: usize, text: &[u8]) -> usize
     at + j
 }
 
-// A number in decimal.
+// A number in decimal, its last digit first.
 pub fn number(out: &mut [u8], at: usize, x: u16) -> usize
     requires { ⌜ at + 5 ≤ length (now out) ⌝ }
     ensures { λ r. ⌜ (Wrote (now (out .entry)) at (decimal x) (now (out .exit)) r) × (r ≤ at + 5) ⌝ }
 {
-    digits(out, at, x)
+    let end = at + digits(x);
+    let mut i = end;
+    let mut rest = x;
+    while at < i {
+        i -= 1;
+        out[i] = 48 + (rest % 10) as u8;
+        rest /= 10;
+    }
+    end
 }
 
-fn digits(out: &mut [u8], at: usize, x: u16) -> usize
-    requires { ⌜ at + length (decimal x) ≤ length (now out) ⌝ }
-    ensures { λ r. ⌜ Wrote (now (out .entry)) at (decimal x) (now (out .exit)) r ⌝ }
+// How many digits a number has. A sum and no branches: which of them a label takes cannot be foreseen.
+fn digits(x: u16) -> usize
+    ensures { λ r. ⌜ (lastDigits r x ≡ decimal x) × (r ≤ 5) ⌝ }
 {
-    if x < 10 {
-        out[at] = 48 + x as u8;
-        return at + 1;
+    1 + reaches(10, x) + reaches(100, x) + reaches(1000, x) + reaches(10000, x)
+}
+
+// 1 where a number is not below another one, and 0 where it is.
+fn reaches(least: u16, x: u16) -> usize
+    ensures { λ r. ⌜ Reaches least x r ⌝ }
+{
+    if x < least {
+        return 0;
     }
-    let last = digits(out, at, x / 10);
-    out[last] = 48 + (x % 10) as u8;
-    last + 1
+    1
 }
 
 // Bits 0 to count - 1, in that order.
