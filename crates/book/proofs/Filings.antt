@@ -5,13 +5,14 @@ use mathlib.Core.List.{List, _++_}
 use Prim.Native.Nat.{ℕ, _-_, _<_}
 use native.Mathlib.Omega.{arith}
 use borrow.Author.Tests.{ltb-false, le-ltb}
-use lib.ListN.{length, getD, replicate, length-drop, take-append-drop}
-use lib.Seq.{length-take-le, getD-take, take-append-seam}
+use lib.ListN.{length, getD, replicate, length-drop}
+use lib.Seq.{length-take-le, getD-take}
 use Rattle.table.proofs.Checks.{neither, neither-of}
 use Rattle.table.specs.Checks.{_below_}
 use Rattle.fabric.specs.Labels.{outsideSizes}
 use Rattle.standing.proofs.Members.{filed-exactly}
-use Rattle.standing.proofs.Filings.{filed-if, filed-passes, unlittered, filler-unlittered}
+use Rattle.places.proofs.Keeping.{parted}
+use Rattle.standing.proofs.Filings.{filed-if, filed-passes, unlittered, filler-unlittered, places-first, places-after}
 use Rattle.book.specs.declared.Book.{Book}
 use Rattle.notices.specs.declared.Notice.{Notice}
 use Rattle.notices.specs.Notices.{unfit}
@@ -20,7 +21,11 @@ use Rattle.book.specs.Standing.{standing, unused, bookOf, unsound, Sound
 
 -- the notices of a list stand in the book that is made of them
 pub standing-of : (n : ℕ) (l : List Notice) → standing (bookOf n l) ≡ l
-standing-of n l = take-append-seam l (replicate (48 - length l) filler)
+standing-of n l = places-first l
+
+-- and its other places are unused
+pub unused-of : (n : ℕ) (l : List Notice) → unused (bookOf n l) ≡ replicate (48 - length l) filler
+unused-of n l = places-after l
 
 -- what a book that passes the test of 16 is like
 pub sound-if : (b : Book) → length (b .notices) ≡ 48 → unsound b ≡ false → Sound b
@@ -55,7 +60,7 @@ length-standing b sound full = let h = sound .fits in length-take-le (b .count) 
 
 -- what stands, and unused places after it
 pub split : (b : Book) → Sound b → b .notices ≡ standing b ++ replicate (48 - b .count) filler
-split b sound = sym (take-append-drop (b .count) (b .notices)) ∙ ap (λ (r : List Notice). standing b ++ r) (sound .rest)
+split b sound = parted (b .count) (b .notices) (sound .rest)
 
 -- "by rising number": in a book that passes, of two notices that stand the one at the later place has the higher number
 pub listed-rising : (b : Book) → length (b .notices) ≡ 48 → unsound b ≡ false

@@ -1,7 +1,7 @@
 -- Document 01, 'Notices': what stands in a book, and what stops a link.
 use mathlib.Core.Path.{_≡_}
 use mathlib.Core.Bool.{Bool, _||_}
-use mathlib.Core.List.{List, _++_}
+use mathlib.Core.List.{List}
 use Prim.Native.Nat.{ℕ, _-_, _≤_}
 use lib.ListN.{length, take, drop, replicate}
 use Rattle.table.specs.Checks.{_below_}
@@ -9,7 +9,7 @@ use Rattle.fabric.specs.Labels.{outsideSizes}
 use Rattle.notices.specs.declared.Notice.{Notice}
 use Rattle.notices.specs.Notices.{names, unfit}
 use Rattle.standing.specs.Picked.{Some, lowest}
-use Rattle.standing.specs.Rising.{filler, Filed, misfiled, littered}
+use Rattle.standing.specs.Rising.{filler, inPlaces, Filed, misfiled, littered}
 use Rattle.book.specs.declared.Book.{Book}
 
 -- the notices that stand
@@ -23,7 +23,7 @@ unused b = drop (b .count) (b .notices)
 -- The book of a fabric of n stages in which the notices of a list stand (`standing-of`, proofs/Filings.antt). "At most 48 notices": `run-at-most-48`
 -- (changes/proofs/Since.antt).
 abbrev pub bookOf : ℕ → List Notice → Book
-bookOf n l = record { n = n; count = length l; notices = l ++ replicate (48 - length l) filler }
+bookOf n l = record { n = n; count = length l; notices = inPlaces l }
 
 -- The test behind 16, "a book that an accepted opening, filing and withdrawing cannot produce": `reachable-sound` and
 -- `sound-reachable` (changes/proofs/Reach.antt) say that it is that sentence exactly.

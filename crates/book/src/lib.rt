@@ -28,17 +28,8 @@ pub struct Kept {
 pub fn unsound(book: Book) -> bool
     ensures { λ r. ⌜ (r ≡ unsound book) × (r ≡ false → Sound book) ⌝ }
 {
-    if fabric::outside_sizes(book.n) {
-        return true;
-    }
-    if 48 < book.count {
-        return true;
-    }
     let notices = book.notices;
-    if places::misfiled(book.n, notices, book.count) {
-        return true;
-    }
-    places::littered(notices, book.count)
+    places::damaged(book.n, notices, book.count)
 }
 
 fn done(book: Book) -> Kept
@@ -99,7 +90,8 @@ impl Book {
         if targets::too_wide(notice) {
             return refused(self, Refusal::Wide);
         }
-        if held::stands(self, notice.number) {
+        let notices = self.notices;
+        if places::stands(notices, self.count, notice.number) {
             return refused(self, Refusal::Stands);
         }
         if 48 <= self.count {
@@ -126,7 +118,8 @@ impl Book {
         if number == 0 {
             return refused(self, Refusal::Zero);
         }
-        if !held::stands(self, number) {
+        let notices = self.notices;
+        if !places::stands(notices, self.count, number) {
             return refused(self, Refusal::Absent);
         }
         done(held::removed(self, number))

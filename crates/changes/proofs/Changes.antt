@@ -6,8 +6,7 @@ use mathlib.Core.Logic.{_⊎_, inl, inr, ⊎-elim}
 use Prim.Native.Nat.{ℕ, suc, _-_, _≤_, _<_}
 use native.Mathlib.Omega.{arith}
 use borrow.Author.Tests.{eqb-false, leb-false, le-ltb}
-use lib.ListN.{length, getD, replicate}
-use lib.Seq.{drop-append-seam}
+use lib.ListN.{length, getD}
 use Rattle.table.proofs.Checks.{neither-of, given-refuses, passed-accepts, given-or-passed, passed-nth, zero-one}
 use Rattle.table.specs.Reply.{Reply, refused, answerSays}
 use Rattle.table.specs.Checks.{Given, Passed, _when_, _below_}
@@ -16,11 +15,11 @@ use Rattle.notices.specs.declared.Notice.{Notice}
 use Rattle.book.specs.declared.Book.{Book}
 use Rattle.notices.specs.Notices.{unfit}
 use Rattle.notices.proofs.Fit.{all-pass}
-use Rattle.standing.specs.Rising.{filler, insert, without, Filed, misfiled, littered}
+use Rattle.standing.specs.Rising.{insert, without, Filed, misfiled, littered}
 use Rattle.book.specs.Standing.{standing, unused, bookOf, unsound}
 use Rattle.book.specs.declared.Kept.{Kept}
 use Rattle.book.specs.Entries.{opened, Opens, Files, Withdraws, fileChecks}
-use Rattle.book.proofs.Filings.{standing-of}
+use Rattle.book.proofs.Filings.{standing-of, unused-of}
 use Rattle.changes.specs.Runs.{Change, changeChecks, changed, answer, after, Accepted}
 use Rattle.standing.proofs.Filings.{filed-passes, filler-unlittered}
 use Rattle.standing.proofs.Members.{insert-filed, insert-length, insert-member, insert-has, insert-keeps, without-filed, without-length, without-member, without-keeps}
@@ -31,7 +30,7 @@ sound-of n l size f h =
     (neither-of (outsideSizes n || 48 below length l) (misfiled (unfit n) 0 (standing (bookOf n l)))
     (neither-of (outsideSizes n) (48 below length l) size (le-ltb 48 (length l) h))
     (ap (misfiled (unfit n) 0) (standing-of n l) ∙ filed-passes (unfit n) 0 l f))
-    (ap littered (drop-append-seam l (replicate (48 - length l) filler)) ∙ filler-unlittered (48 - length l))
+    (ap littered (unused-of n l) ∙ filler-unlittered (48 - length l))
 
 -- the runs of the theorems are runs of the entries: what an entry answers and leaves is what its change answers and leaves
 pub opens-leaves : (n : ℕ) (r : Kept) → Opens n r → r .book ≡ opened n

@@ -5,15 +5,14 @@ use mathlib.Core.List.{List, _++_}
 use Prim.Native.Nat.{ℕ, _-_, _≤_}
 use borrow.Author.Tests.{le-ltb}
 use lib.ListN.{length, replicate}
-use lib.Seq.{drop-append-seam}
 use Rattle.table.proofs.Checks.{neither-of}
 use Rattle.fabric.specs.Labels.{outsideSizes}
 use Rattle.notices.specs.declared.Notice.{Notice}
 use Rattle.notices.specs.Notices.{unfit}
-use Rattle.standing.specs.Rising.{filler, Filed}
+use Rattle.standing.specs.Rising.{filler, inPlaces, Filed}
 use Rattle.book.specs.declared.Book.{Book}
 use Rattle.book.specs.Standing.{standing, bookOf, Sound}
-use Rattle.book.proofs.Filings.{standing-of, length-standing, split}
+use Rattle.book.proofs.Filings.{standing-of, unused-of, length-standing, split}
 use Rattle.changes.proofs.Changes.{Good}
 
 -- the sizes of 01, as the test of them says
@@ -22,6 +21,7 @@ size-passes n some few = neither-of _ _ (le-ltb n 1 some) (le-ltb 12 n few)
 
 -- a sound book is the book of what stands in it
 pub whole : (b : Book) → Sound b → length (b .notices) ≡ 48 → bookOf (b .n) (standing b) ≡ b
+unfolding inPlaces
 whole b sound places =
     let l = length-standing b sound places in
     ap₂ (λ (c : ℕ) (ns : List Notice). record { n = b .n; count = c; notices = ns }) l
@@ -34,7 +34,7 @@ sound-book n l some few filed fits =
       few = few;
       fits = fits;
       filed = rw standing-of filed;
-      rest = drop-append-seam l (replicate (48 - length l) filler);
+      rest = unused-of n l;
     }
 
 -- a book as accepted changes make it is sound

@@ -1,14 +1,15 @@
 -- The place of a number among standing notices: inserting there is `insert`, removing there is `without`, and a number stands
 -- exactly where the notice at its place has it.
 use mathlib.Core.Path.{_≡_, refl, sym, ap, _∙_}
-use mathlib.Core.Bool.{Bool, true, false, cond, true≢false, or-false}
+use mathlib.Core.Bool.{Bool, true, false, cond, true≢false}
 use mathlib.Core.List.{List, [], _∷_, _++_}
 use Prim.Native.Nat.{ℕ, suc, _≤_, _<_, zero-le, suc-le-suc}
 use native.Mathlib.Decide.{ℕ-discrete, decLe}
 use native.Mathlib.Omega.{arith}
 use borrow.Author.Tests.{eq-eqb, ne-eqb, le-leb, lt-leb, lt-ltb, le-ltb}
-use lib.Dec.{eqb, leb}
-use lib.ListN.{length, take, drop, getD}
+use lib.Dec.{leb}
+use lib.ListN.{length, take, drop, length-append, length-take, length-drop}
+use lib.Seq.{length-take-le}
 use Rattle.notices.specs.declared.Notice.{Notice}
 use Rattle.standing.specs.Picked.{some, those}
 use Rattle.standing.specs.Rising.{stands, insert, without, Filed}
@@ -42,20 +43,6 @@ module _ (k : ℕ) where
           let g : suc (length ys) ≤ suc (placeOf k ys) = rw (lt-leb k (y .number) (omega arith)) at h in
           rw (ne-eqb (y .number) k (λ e. t (omega arith))) (ih (omega arith))
 
-  module _ (bad : Notice → Bool) (d : Notice) where
-    pub place-stands : (m : ℕ) (l : List Notice) → Filed bad m l → placeOf k l < length l → stands k l ≡ eqb (getD l (placeOf k l) d .number) k
-    unfolding placeOf some Filed
-    place-stands m [] f h = absurd (omega arith)
-    place-stands m (y ∷ ys) f h = go (decLe k (y .number)) (place-stands (y .number) ys (f .2))
-      where
-        go : Dec (k ≤ y .number) → (placeOf k ys < length ys → stands k ys ≡ eqb (getD ys (placeOf k ys) d .number) k)
-            → stands k (y ∷ ys) ≡ eqb (getD (y ∷ ys) (placeOf k (y ∷ ys)) d .number) k
-        go (yes t) ih = rw (le-leb k (y .number) t, above-stands-not bad (y .number) k ys (f .2) t) (or-false (eqb (y .number) k))
-        go (no t) ih =
-            let b = lt-leb k (y .number) (omega arith) in
-            let g : suc (placeOf k ys) < suc (length ys) = rw b at h in
-            rw (b, ne-eqb (y .number) k (λ e. t (omega arith))) (ih (omega arith))
-
   pub standing-place : (l : List Notice) → stands k l ≡ true → placeOf k l < length l
   standing-place l s = go (decLe (length l) (placeOf k l))
     where
@@ -78,6 +65,19 @@ module _ (k : ℕ) where
       go (no e) (no t) ih =
           let z : stands k ys ≡ true = rw (ne-eqb (y .number) k e) at s in
           rw (ne-eqb (y .number) k e, lt-leb k (y .number) (omega arith)) (ap (λ (l : List Notice). y ∷ l) (ih z))
+
+-- a number that stands has its place among those in use
+pub place-in-use : (count : ℕ) (notices : List Notice) (k : ℕ) → count ≤ 48 → length notices ≡ 48 → stands k (take count notices) ≡ true → placeOf k (take count notices) < count
+place-in-use count notices k fits full h =
+    let l : length (take count notices) ≡ count = length-take-le count notices (omega arith) in
+    let q = standing-place k (take count notices) h in
+    omega arith
+
+-- and one notice fewer is left
+pub without-shorter : (k : ℕ) (bad : Notice → Bool) (l : List Notice) → Filed bad 0 l → stands k l ≡ true → suc (length (without k l)) ≡ length l
+without-shorter k bad l f s =
+    let q = standing-place k l s in
+    ap (λ (m : List Notice). suc (length m)) (without-at k bad 0 l f s) ∙ simp (length-append, length-take, length-drop) (omega arith)
 
 pub insert-at : (x : Notice) (l : List Notice) → insert x l ≡ insertAt (placeOf (x .number) l) x l
 unfolding placeOf insert

@@ -5,15 +5,19 @@ use notices::Notice;
 use notices::Target;
 pub use rows::laid;
 ghost use mathlib.Core.Path.{_≡_};
-ghost use Prim.Native.Nat.{_+_, _≤_};
-ghost use lib.ListN.{take, drop};
+ghost use mathlib.Core.Bool.{Bool, true, _||_};
+ghost use mathlib.Core.List.{[]};
+ghost use Prim.Native.Nat.{_+_, _-_, _≤_, _<_};
+ghost use lib.ListN.{take, drop, replicate};
 ghost use lib.Seq.{paste};
 ghost use Rattle.notices.specs.Notices.{unfit};
-ghost use Rattle.standing.specs.Rising.{filler, isFiller, littered, misfiled};
+ghost use Rattle.table.specs.Checks.{_below_};
+ghost use Rattle.fabric.specs.Labels.{outsideSizes};
+ghost use Rattle.standing.specs.Rising.{filler, inPlaces, isFiller, littered, misfiled, stands, insert, without, Filed};
 ghost use Rattle.places.specs.Places.{placeOf};
 
 // What an unused place holds.
-pub fn filler() -> Notice
+fn filler() -> Notice
     ensures { λ r. ⌜ r ≡ filler ⌝ }
 {
     Notice {
@@ -26,8 +30,16 @@ pub fn filler() -> Notice
     }
 }
 
+// The places in which nothing stands.
+pub fn unused() -> [Notice; 48]
+    ensures { λ r. ⌜ r ≡ inPlaces [] ⌝ }
+{
+    let x = filler();
+    [x; 48]
+}
+
 // Whether a place holds what unused places hold.
-pub fn is_filler(x: Notice) -> bool
+fn is_filler(x: Notice) -> bool
     ensures { λ r. ⌜ r ≡ isFiller x ⌝ }
 {
     let t = x.target;
@@ -52,7 +64,7 @@ pub fn is_filler(x: Notice) -> bool
 }
 
 // Whether one of the first `count` notices is out of order, or one that filing refuses.
-pub fn misfiled(n: u8, notices: [Notice; 48], count: usize) -> bool
+fn misfiled(n: u8, notices: [Notice; 48], count: usize) -> bool
     requires { ⌜ (count ≤ 48) × (n ≤ 12) ⌝ }
     ensures { λ r. ⌜ r ≡ misfiled (unfit n) 0 (take count notices) ⌝ }
 {
@@ -73,7 +85,7 @@ pub fn misfiled(n: u8, notices: [Notice; 48], count: usize) -> bool
 }
 
 // Whether a place after the first `count` holds anything but the filler.
-pub fn littered(notices: [Notice; 48], count: usize) -> bool
+fn littered(notices: [Notice; 48], count: usize) -> bool
     requires { ⌜ count ≤ 48 ⌝ }
     ensures { λ r. ⌜ r ≡ littered (drop count notices) ⌝ }
 {
@@ -88,10 +100,42 @@ pub fn littered(notices: [Notice; 48], count: usize) -> bool
     false
 }
 
-// How many of the first `count` notices come before the first whose number is k or more.
-pub fn place(notices: [Notice; 48], count: usize, k: u16) -> usize
+// Whether no accepted opening, filing and withdrawing put the first `count` notices there, in a fabric of n stages, and nothing after them.
+pub fn damaged(n: u8, notices: [Notice; 48], count: usize) -> bool
+    ensures { λ r. ⌜ r ≡ (outsideSizes n || 48 below count || misfiled (unfit n) 0 (take count notices) || littered (drop count notices)) ⌝ }
+{
+    if fabric::outside_sizes(n) {
+        return true;
+    }
+    if 48 < count {
+        return true;
+    }
+    if misfiled(n, notices, count) {
+        return true;
+    }
+    littered(notices, count)
+}
+
+// Whether one of the first `count` notices has the number k.
+pub fn stands(notices: [Notice; 48], count: usize, k: u16) -> bool
     requires { ⌜ count ≤ 48 ⌝ }
-    ensures { λ r. ⌜ (r ≡ placeOf k (take count notices)) × (r ≤ count) ⌝ }
+    ensures { λ r. ⌜ r ≡ stands k (take count notices) ⌝ }
+{
+    let mut i = 0;
+    while i < count {
+        let x = notices[i];
+        if x.number == k {
+            return true;
+        }
+        i += 1;
+    }
+    false
+}
+
+// How many of the first `count` notices come before the first whose number is k or more.
+fn place(notices: [Notice; 48], count: usize, k: u16) -> usize
+    requires { ⌜ count ≤ 48 ⌝ }
+    ensures { λ r. ⌜ (r ≡ placeOf k (take count notices)) × (r ≤ count) × (stands k (take count notices) ≡ true → r < count) ⌝ }
 {
     let mut i = 0;
     while i < count {
@@ -105,7 +149,7 @@ pub fn place(notices: [Notice; 48], count: usize, k: u16) -> usize
 }
 
 // The array with `len` notices from `from` on laid from `to` on.
-pub fn moved(notices: [Notice; 48], from: usize, to: usize, len: usize) -> [Notice; 48]
+fn moved(notices: [Notice; 48], from: usize, to: usize, len: usize) -> [Notice; 48]
     requires { ⌜ (from + len ≤ 48) × (to + len ≤ 48) ⌝ }
     ensures { λ r. ⌜ r ≡ paste notices to (drop from notices) len ⌝ }
 {
@@ -117,4 +161,27 @@ pub fn moved(notices: [Notice; 48], from: usize, to: usize, len: usize) -> [Noti
         j += 1;
     }
     out
+}
+
+// The places with x among the first `count` notices, which are not all in use.
+pub fn inserted(notices: [Notice; 48], count: usize, x: Notice) -> [Notice; 48]
+    requires { ⌜ (count < 48) × (drop count notices ≡ replicate (48 - count) filler) ⌝ }
+    ensures { λ r. ⌜ r ≡ inPlaces (insert x (take count notices)) ⌝ }
+{
+    let p = place(notices, count, x.number);
+    let mut grown = moved(notices, p, p + 1, count - p);
+    grown[p] = x;
+    grown
+}
+
+// The places without the notice of number k, one of the first `count`.
+pub fn removed(notices: [Notice; 48], count: usize, k: u16) -> [Notice; 48]
+    requires { ⌜ (count ≤ 48) × (drop count notices ≡ replicate (48 - count) filler) × (stands k (take count notices) ≡ true) × ((bad : Notice → Bool) × Filed bad 0 (take count notices)) ⌝ }
+    ensures { λ r. ⌜ r ≡ inPlaces (without k (take count notices)) ⌝ }
+{
+    let p = place(notices, count, k);
+    let mut shrunk = moved(notices, p + 1, p, count - p - 1);
+    let last = count - 1;
+    shrunk[last] = filler();
+    shrunk
 }

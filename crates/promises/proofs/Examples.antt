@@ -20,7 +20,7 @@ use Rattle.frontier.specs.Frontier.{through, lesser, advanced, mirrored}
 use Rattle.book.specs.declared.Book.{Book}
 use Rattle.book.specs.Standing.{standing, stopper, stopsOf}
 use Rattle.standing.specs.Picked.{some, lowest, those}
-use Rattle.standing.specs.Rising.{insert, misfiled, littered}
+use Rattle.standing.specs.Rising.{inPlaces, insert, misfiled, littered}
 use Rattle.questions.specs.declared.Link.{Link}
 use Rattle.book.specs.Entries.{opened}
 use Rattle.questions.specs.Entries.{linkChecks, Tests}
@@ -141,7 +141,7 @@ all-rows [] e = tt
 all-rows (x ∷ es) e = let w = both-hold (test x) (every es) .0 e in (row x (w .0), all-rows es (w .1))
 
 tested : every examples ≡ true
-unfolding every test routing stopping accepting passing sameFound sameList run lowest some insert those misfiled littered ones steered statesOf walked high through lesser advanced mirrored answerFrom
+unfolding every test routing stopping accepting passing sameFound sameList run lowest some inPlaces insert those misfiled littered ones steered statesOf walked high through lesser advanced mirrored answerFrom
 tested = refl
 
 -- the thirteen examples

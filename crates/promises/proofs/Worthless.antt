@@ -19,7 +19,7 @@ use Rattle.book.specs.declared.Book.{Book}
 use Rattle.questions.specs.declared.Link.{Link}
 use Rattle.book.specs.Standing.{stopsOf}
 use Rattle.standing.specs.Picked.{some, lowest}
-use Rattle.standing.specs.Rising.{insert, misfiled, littered}
+use Rattle.standing.specs.Rising.{inPlaces, insert, misfiled, littered}
 use Rattle.book.specs.Entries.{opened}
 use Rattle.changes.specs.Runs.{Change, run}
 use Rattle.routes.specs.declared.Found.{Found}
@@ -65,7 +65,7 @@ module _ (c : Controller Book) (routes : RoutesAsPromised c) where
   -- "Taking the spare link only where the stopped one starts. A stopped straight link needs an earlier turn.": examples 1 and 6 turn
   -- at switch 1 of stage 0, whose own links are clear in both
   pub not-looking-only-where-it-stands : LooksOnlyWhereItStands c → ⊥
-  unfolding run some insert misfiled littered lowest steered walked
+  unfolding run some inPlaces insert misfiled littered lowest steered walked
   not-looking-only-where-it-stands w =
       let b : Book = run (links 1 1 0 1 ∷ []) (opened 3) in
       let minus : _≡_ {A = ℕ} 2 (w .choose 3 1 0 0 1 0 0 0) = w .chosen empty 1 0 0 0 (route-once empty 1 0 _ _ (routes empty 1 0) (row-holds 0 .1)) (omega arith) in
@@ -80,7 +80,7 @@ module _ (c : Controller Book) (routes : RoutesAsPromised c) where
 
 -- by demand 1 with the table: "one that refuses every filing"
 pub not-every-filing-refused : (c : Controller Book) → FilesAsPromised c → RefusesEveryFiling c → ⊥
-unfolding run some insert misfiled littered
+unfolding run some inPlaces insert misfiled littered
 not-every-filing-refused c files refuses =
     let x : Notice = record { number = 2; target = Links 1 2 4 } in
     let w = refuses empty x in

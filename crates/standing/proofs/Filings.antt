@@ -1,16 +1,18 @@
--- The tests of notices by rising number, and of unused places.
+-- The tests of notices by rising number, and of unused places; and the 48 places in which a list stands.
 use mathlib.Core.Path.{_≡_, refl, sym, ap₂}
 use mathlib.Core.Bool.{Bool, true, false, not, _&&_, true≢false}
 use mathlib.Core.List.{List, [], _∷_}
-use Prim.Native.Nat.{ℕ, zero, suc}
+use Prim.Native.Nat.{ℕ, zero, suc, _-_, _≤_}
+use native.Mathlib.Omega.{arith}
 use borrow.Author.Tests.{lt-leb, eqb-true, leb-false}
 use lib.Dec.{eqb}
-use lib.ListN.{length, replicate}
+use lib.ListN.{length, take, drop, replicate, length-append, length-replicate}
+use lib.Seq.{take-append-seam, drop-append-seam}
 use Rattle.table.proofs.Checks.{neither, both-hold}
 use Rattle.notices.specs.declared.Notice.{Notice}
 use Rattle.notices.specs.declared.Target.{Target}
 use Rattle.notices.specs.declared.Target.the-variants.{Links, Switch, Pattern}
-use Rattle.standing.specs.Rising.{filler, Filed, misfiled, isFiller, isFirstTarget, littered}
+use Rattle.standing.specs.Rising.{filler, inPlaces, Filed, misfiled, isFiller, isFirstTarget, littered}
 
 -- `misfiled` decides `Filed`
 module _ (bad : Notice → Bool) where
@@ -56,3 +58,17 @@ pub filler-unlittered : (n : ℕ) → littered (replicate n filler) ≡ false
 unfolding littered
 filler-unlittered zero = refl
 filler-unlittered (suc n) = filler-unlittered n
+
+-- The places of a list: the list itself, then the filler, and 48 in all.
+module _ (l : List Notice) where
+  pub places-first : take (length l) (inPlaces l) ≡ l
+  unfolding inPlaces
+  places-first = take-append-seam l (replicate (48 - length l) filler)
+
+  pub places-after : drop (length l) (inPlaces l) ≡ replicate (48 - length l) filler
+  unfolding inPlaces
+  places-after = drop-append-seam l (replicate (48 - length l) filler)
+
+  pub places-in-all : length l ≤ 48 → length (inPlaces l) ≡ 48
+  unfolding inPlaces
+  places-in-all h = simp (length-append, length-replicate) (omega arith)

@@ -1,10 +1,10 @@
 -- Document 01, 'Notices' and 'listing': notices by rising number, and what an unused place holds.
 use mathlib.Core.Path.{_≡_}
 use mathlib.Core.Bool.{Bool, false, cond, not, _&&_, _||_}
-use mathlib.Core.List.{List, [], _∷_, List·Memᴰ}
-use Prim.Native.Nat.{ℕ, _<_}
+use mathlib.Core.List.{List, [], _∷_, _++_, List·Memᴰ}
+use Prim.Native.Nat.{ℕ, _-_, _<_}
 use lib.Dec.{eqb}
-use lib.ListN.{length}
+use lib.ListN.{length, replicate}
 use Rattle.table.specs.Checks.{_below_, _notBelow_}
 use Rattle.notices.specs.declared.Notice.{Notice}
 use Rattle.notices.specs.declared.Target.{Target}
@@ -15,6 +15,11 @@ use Rattle.standing.specs.Picked.{some, those}
 -- as a notice.
 abbrev pub filler : Notice
 filler = record { number = 0; target = Links 0 0 0 }
+
+-- The 48 places of the array that holds a book's notices, where those of a list stand: the list, and the filler in every place after it:
+-- `places-first`, `places-after`, `places-in-all` (proofs/Filings).
+unfoldable pub inPlaces : List Notice → List Notice
+inPlaces l = l ++ replicate (48 - length l) filler
 
 -- whether a notice has this number, and whether it has another
 abbrev pub numbered : ℕ → Notice → Bool

@@ -8,6 +8,7 @@ use lib.ListN.{length, take, drop}
 use Rattle.standing.specs.Rising.{filler}
 use Rattle.places.specs.Places.{placeOf}
 use Rattle.places.proofs.Arrays.{next-of, none-left-of}
+use Rattle.places.proofs.Placing.{place-in-use}
 use Rattle.places.proofs.place.Statement.{statement}
 use Rattle.places.proofs.place.Tie as tie
 
@@ -33,7 +34,7 @@ unfolding placeOf
 returns c =
     let a = c .before .before .before .before .before .args in
     let v = c .before .before .before .before .loop in
-    (rw (v .inv .2, next-of (a .count) (a .t1) filler (v .i) (v .inv .1) (c .before .before .before .loop-test .taken), le-leb _ _ (c .if1 .taken)) (omega arith), omega arith)
+    (rw (v .inv .2, next-of (a .count) (a .t1) filler (v .i) (v .inv .1) (c .before .before .before .loop-test .taken), le-leb _ _ (c .if1 .taken)) (omega arith), omega arith, λ s. omega arith)
 
 add-i : tie.Need-add-i Inv-loop μ-loop
 add-i c = search needs
@@ -54,8 +55,11 @@ loop-again c =
 returns-2 : tie.Need-returns-2 Inv-loop μ-loop
 unfolding placeOf
 returns-2 c =
+    let a = c .before .before .args in
     let v = c .before .loop in
-    (rw (v .inv .2, none-left-of (c .before .before .args .count) (c .before .before .args .t1) (v .i) (v .inv .1) (omega arith)) (omega arith), v .inv .0)
+    let n : length (a .t1) ≡ 48 = search needs in
+    let e : v .i ≡ placeOf (a .k) (take (a .count) (a .t1)) = rw (v .inv .2, none-left-of (a .count) (a .t1) (v .i) (v .inv .1) (omega arith)) (omega arith) in
+    (e, v .inv .0, λ s. let q = place-in-use (a .count) (a .t1) (a .k) (c .before .before .pre) n s in omega arith)
 
 pub place-spec : {M : Type 1} → statement M
 place-spec =

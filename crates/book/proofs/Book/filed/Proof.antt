@@ -58,7 +58,7 @@ refused-requires-6 c κs = search needs
 
 returns-6 : tie.Need-returns-6
 returns-6 c =
-    let start = c .before .before .before .before .before .before .before .before .before .before .before .before .before in
+    let start = c .before .before .before .before .before .before .before .before .before .before .before .before .before .before in
     let b = start .args .self in
     let places : length (b .notices) ≡ 48 = search (needs, length-mapped) in
     let f = full b (start .pre) places (let h = c .before .if6 .taken in omega arith) in
@@ -72,7 +72,7 @@ done-requires c κs = search needs
 
 returns-7 : tie.Need-returns-7
 returns-7 c =
-    let start = c .before .before .before .before .before .before .before .before .before .before .before .before .before .before in
+    let start = c .before .before .before .before .before .before .before .before .before .before .before .before .before .before .before in
     let b = start .args .self in
     let places : length (b .notices) ≡ 48 = search (needs, length-mapped) in
     let f = not-full b (start .pre) places (let h = c .before .before .if6 .left in omega arith) in

@@ -1,16 +1,10 @@
 -- The checks in 01's order; past them all `removed` makes the book. A sound book passes the first.
-use mathlib.Core.Path.{_≡_, sym, _∙_}
-use native.Mathlib.Omega.{arith}
+use mathlib.Core.Path.{sym, _∙_}
 use borrow.Author.Tests.{not-false}
 use borrow.Author.Needs.{needs}
-use lib.ListN.{length}
 use Rattle.table.proofs.Checks.{refusing, accepting}
 use Rattle.book.proofs.Filings.{sound-passes}
 use Rattle.book.proofs.Answers.{hands-back-done-as, turned, hands-back-refused}
-use Rattle.book.specs.Standing.{standing}
-use Rattle.places.proofs.Arrays.{length-mapped}
-use Rattle.book.proofs.Filings.{length-standing}
-use Rattle.places.proofs.Placing.{standing-place}
 use Rattle.book.proofs.Book.withdrawn.Statement.{statement}
 use Rattle.book.proofs.Book.withdrawn.Tie as tie
 
@@ -30,14 +24,7 @@ returns-2 : tie.Need-returns-2
 returns-2 c = search (hands-back-refused, refusing, turned, sound-passes) depth 12
 
 removed-requires : tie.Need-removed-requires
-removed-requires c κs =
-    let start = c .before .before .before in
-    let b = start .args .self in
-    let n : length (b .notices) ≡ 48 = search (needs, length-mapped) in
-    let l = length-standing b (start .pre) n in
-    let s = sym (c .before .stands .ensures) ∙ not-false _ (c .if2 .left) in
-    let p = standing-place (start .args .number) (standing b) s in
-    (start .pre, s, omega arith)
+removed-requires c κs = (c .before .before .before .before .pre, sym (c .before .stands .ensures) ∙ not-false _ (c .if2 .left))
 
 done-requires : tie.Need-done-requires
 done-requires c κs = search needs
