@@ -60,6 +60,13 @@ impl Book {
     }
 }
 
+/// The lowest eight bits as digits, the lowest first: byte i of the product keeps bit i alone, and any bit in a byte carries into its highest.
+fn spread(bits: u64) -> [u8; 8] {
+    let each = u64::from_le_bytes([1; 8]);
+    let alone = (bits & 0xff) * each & u64::from_le_bytes([1, 2, 4, 8, 16, 32, 64, 128]);
+    ((alone + 0x7f * each) >> 7 & each | b'0' as u64 * each).to_le_bytes()
+}
+
 struct Text<'a> {
     memory: &'a mut [u8],
     at: usize,
@@ -72,17 +79,12 @@ impl Text<'_> {
     }
 
     fn number(&mut self, mut x: u16) {
-        let mut digits = [0u8; 5];
-        let mut first = 5;
-        loop {
-            first -= 1;
-            digits[first] = b'0' + (x % 10) as u8;
+        let count = 1 + [9, 99, 999, 9999].iter().filter(|&&most| x > most).count();
+        for byte in self.memory[self.at..self.at + count].iter_mut().rev() {
+            *byte = b'0' + (x % 10) as u8;
             x /= 10;
-            if x == 0 {
-                break;
-            }
         }
-        self.say(&digits[first..]);
+        self.at += count;
     }
 
     fn told(&mut self, refusal: Option<u8>) {
@@ -101,8 +103,15 @@ impl Text<'_> {
     fn tag(&mut self, n: u32, tag: u32) {
         self.say(b" TAG ");
         let bits = 2 * n as usize;
-        for (i, byte) in self.memory[self.at..self.at + bits].iter_mut().enumerate() {
-            *byte = b'0' + (tag >> i & 1) as u8;
+        let mut rest = tag as u64;
+        let mut eights = self.memory[self.at..self.at + bits].chunks_exact_mut(8);
+        for eight in &mut eights {
+            eight.copy_from_slice(&spread(rest));
+            rest >>= 8;
+        }
+        for byte in eights.into_remainder() {
+            *byte = b'0' + (rest & 1) as u8;
+            rest >>= 1;
         }
         self.at += bits;
         self.say(b"\n");
