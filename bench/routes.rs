@@ -8,9 +8,9 @@ use std::hint::black_box;
 use std::time::Instant;
 
 extern "C" {
-    fn bench_standing(n: u8, rows: *const u8, rows_len: usize) -> usize;
-    fn bench_routes(n: u8, rows: *const u8, rows_len: usize, asked: *const u8, asked_len: usize, answers: *mut u8, answers_len: usize) -> bool;
-    fn bench_routed(n: u8, rows: *const u8, rows_len: usize, asked: *const u8, asked_len: usize, answers: *mut u8, answers_len: usize) -> bool;
+    fn bench_standing(sheet: *const u8, sheet_len: usize) -> usize;
+    fn bench_routes(sheet: *const u8, sheet_len: usize, pairs: *const u16, pairs_len: usize, answers: *mut u64, answers_len: usize) -> bool;
+    fn bench_routed(sheet: *const u8, sheet_len: usize, pairs: *const u16, pairs_len: usize, answers: *mut u64, answers_len: usize) -> u64;
 }
 
 const QUESTIONS: usize = 1_000_000;
@@ -25,34 +25,34 @@ fn timed(work: impl FnOnce()) -> f64 {
     began.elapsed().as_secs_f64()
 }
 
-type Side = fn(&[u8], &[u8], &mut [u8]);
+type Side = fn(&[u8], &[u16], &mut [u64]);
 
-/// The proved router, over the ten-byte rows of filing actions: `route`, which judges the book, and `routed`, which need not.
-fn proved_entry(rows: &[u8], asked: &[u8], answers: &mut [u8]) {
-    let taken = unsafe { bench_routes(N as u8, rows.as_ptr(), rows.len(), asked.as_ptr(), asked.len(), answers.as_mut_ptr(), answers.len()) };
-    assert!(taken, "the room for the answers is as long as the questions");
+/// The proved router, over a sheet of filing actions: `route`, which judges the book, and `routed`, which need not.
+fn proved_entry(sheet: &[u8], pairs: &[u16], answers: &mut [u64]) {
+    let taken = unsafe { bench_routes(sheet.as_ptr(), sheet.len(), pairs.as_ptr(), pairs.len(), answers.as_mut_ptr(), answers.len()) };
+    assert!(taken, "there is an answer's room for each pair");
 }
 
-fn proved_path(rows: &[u8], asked: &[u8], answers: &mut [u8]) {
-    let taken = unsafe { bench_routed(N as u8, rows.as_ptr(), rows.len(), asked.as_ptr(), asked.len(), answers.as_mut_ptr(), answers.len()) };
-    assert!(taken, "the room for the answers is as long as the questions, and the book is sound");
+fn proved_path(sheet: &[u8], pairs: &[u16], answers: &mut [u64]) {
+    let number = unsafe { bench_routed(sheet.as_ptr(), sheet.len(), pairs.as_ptr(), pairs.len(), answers.as_mut_ptr(), answers.len()) };
+    assert_eq!(number, 0, "there is an answer's room for each pair");
 }
 
-fn word(bytes: &[u8]) -> u32 {
-    bytes[0] as u32 * 256 + bytes[1] as u32
+fn word(bytes: &[u8]) -> u16 {
+    u16::from_be_bytes([bytes[0], bytes[1]])
 }
 
-/// The plain router's book, from the same rows.
-fn book(rows: &[u8]) -> plain::Book {
-    let mut notices: Vec<(u16, plain::Target)> = rows
+/// The plain router's book, from the ten-byte rows of the same sheet.
+fn book(sheet: &[u8]) -> plain::Book {
+    let mut notices: Vec<(u16, plain::Target)> = sheet[8..]
         .chunks_exact(10)
         .map(|r| {
             let target = match r[3] {
-                1 => plain::Target::Links { stage: r[4], switch: word(&r[5..]) as u16, set: r[9] },
-                2 => plain::Target::Switch { column: r[4], switch: word(&r[5..]) as u16 },
-                _ => plain::Target::Pattern { stage: r[4], value: word(&r[5..]) as u16, mask: word(&r[7..]) as u16, set: r[9] },
+                1 => plain::Target::Links { stage: r[4], switch: word(&r[5..]), set: r[9] },
+                2 => plain::Target::Switch { column: r[4], switch: word(&r[5..]) },
+                _ => plain::Target::Pattern { stage: r[4], value: word(&r[5..]), mask: word(&r[7..]), set: r[9] },
             };
-            (word(&r[1..]) as u16, target)
+            (word(&r[1..]), target)
         })
         .collect();
     notices.sort_by_key(|x| x.0);
@@ -61,36 +61,36 @@ fn book(rows: &[u8]) -> plain::Book {
     plain::Book { n: N, numbers: notices.iter().map(|x| x.0).collect(), targets: notices.iter().map(|x| x.1).collect(), count }
 }
 
-fn answered(asked: &[u8], answers: &mut [u8], route: impl Fn(u32, u32) -> plain::Answer) {
-    for (question, answer) in asked.chunks_exact(4).zip(answers.chunks_exact_mut(4)) {
-        let said = match route(word(question), word(&question[2..])) {
-            plain::Answer::Tag(tag) => tag,
-            plain::Answer::None(stage) => 11 << 24 | stage,
+fn answered(pairs: &[u16], answers: &mut [u64], route: impl Fn(u32, u32) -> plain::Answer) {
+    for (pair, answer) in pairs.chunks_exact(2).zip(answers) {
+        *answer = match route(pair[0].into(), pair[1].into()) {
+            plain::Answer::Tag(tag) => u64::from(tag) << 8,
+            plain::Answer::None(stage) => 11 | u64::from(stage) << 8,
         };
-        answer.copy_from_slice(&said.to_be_bytes());
     }
 }
 
-fn plain_entry(rows: &[u8], asked: &[u8], answers: &mut [u8]) {
-    let book = book(rows);
-    answered(asked, answers, |s, d| plain::judged(black_box(&book), s, d).expect("the book is sound"));
+fn plain_entry(sheet: &[u8], pairs: &[u16], answers: &mut [u64]) {
+    let book = book(sheet);
+    answered(pairs, answers, |s, d| plain::judged(black_box(&book), s, d).expect("the book is sound"));
 }
 
-fn plain_path(rows: &[u8], asked: &[u8], answers: &mut [u8]) {
-    let book = book(rows);
-    answered(asked, answers, |s, d| plain::route(N, &book.targets[..book.count], s, d));
+fn plain_path(sheet: &[u8], pairs: &[u16], answers: &mut [u64]) {
+    let book = book(sheet);
+    answered(pairs, answers, |s, d| plain::route(N, &book.targets[..book.count], s, d));
 }
 
 /// Asks both sides and answers whether they agree.
-fn compared(what: &str, sides: [Side; 2], rows: &[u8], asked: &[u8]) -> bool {
-    let mut answers = [vec![0u8; asked.len()], vec![0xffu8; asked.len()]];
+fn compared(what: &str, sides: [Side; 2], sheet: &[u8], pairs: &[u16]) -> bool {
+    let mut answers = [vec![0u64; QUESTIONS], vec![u64::MAX; QUESTIONS]];
     let mut best = [vec![f64::INFINITY; BLOCKS], vec![f64::INFINITY; BLOCKS]];
-    let size = asked.len() / BLOCKS;
+    let size = QUESTIONS / BLOCKS;
     for _ in 0..ROUNDS {
         for k in 0..BLOCKS {
-            let part = k * size..(k + 1) * size;
+            let asked = &pairs[2 * k * size..2 * (k + 1) * size];
             for side in 0..2 {
-                let took = timed(|| sides[side](black_box(rows), black_box(&asked[part.clone()]), &mut answers[side][part.clone()]));
+                let room = &mut answers[side][k * size..(k + 1) * size];
+                let took = timed(|| sides[side](black_box(sheet), black_box(asked), room));
                 best[side][k] = best[side][k].min(took);
             }
         }
@@ -100,14 +100,14 @@ fn compared(what: &str, sides: [Side; 2], rows: &[u8], asked: &[u8]) -> bool {
     let mut diverted = 0;
     let mut none = 0;
     let mut differ = 0;
-    for (question, (a, b)) in asked.chunks_exact(4).zip(answers[0].chunks_exact(4).zip(answers[1].chunks_exact(4))) {
+    for (pair, (a, b)) in pairs.chunks_exact(2).zip(answers[0].iter().zip(&answers[1])) {
         differ += (a != b) as usize;
-        match b[0] {
-            0 => diverted += (word(&b[2..]) % (1 << N) != word(&b[2..]) || b[1] != 0) as usize,
+        match b & 255 {
+            0 => diverted += (b >> (8 + N) != 0) as usize,
             _ => none += 1,
         }
         if a != b && differ <= 5 {
-            println!("from {} to {}: proved {:?}, plain {:?}", word(question), word(&question[2..]), a, b);
+            println!("from {} to {}: proved {a:x}, plain {b:x}", pair[0], pair[1]);
         }
     }
     println!("{what}");
@@ -126,19 +126,19 @@ fn compared(what: &str, sides: [Side; 2], rows: &[u8], asked: &[u8]) -> bool {
 fn main() {
     let mut numbers = Numbers::fixed();
     let pool = Pool::new(&mut numbers);
-    let rows = filings(&pool, &mut numbers);
-    let mut asked = Vec::with_capacity(4 * QUESTIONS);
+    let mut sheet = vec![b'F', b'S', b'H', 0, 1, N as u8, 0, 48];
+    sheet.extend(filings(&pool, &mut numbers));
+    let mut pairs = Vec::with_capacity(2 * QUESTIONS);
     for _ in 0..QUESTIONS {
         let (s, d) = pool.question(&mut numbers);
-        asked.extend((s as u16).to_be_bytes());
-        asked.extend((d as u16).to_be_bytes());
+        pairs.extend([s as u16, d as u16]);
     }
-    let standing = unsafe { bench_standing(N as u8, rows.as_ptr(), rows.len()) };
+    let standing = unsafe { bench_standing(sheet.as_ptr(), sheet.len()) };
     assert_eq!(standing, 48, "every notice stands");
 
     println!("questions {QUESTIONS} at n = {N}, {standing} notices standing, {BLOCKS} blocks, best of {ROUNDS} for each block");
-    let path = compared("over a book that is known to be sound:", [proved_path, plain_path], &rows, &asked);
-    let entry = compared("with the book judged for each question:", [proved_entry, plain_entry], &rows, &asked);
+    let path = compared("over a book that is known to be sound:", [proved_path, plain_path], &sheet, &pairs);
+    let entry = compared("with the book judged for each question:", [proved_entry, plain_entry], &sheet, &pairs);
     if !(path && entry) {
         std::process::exit(1);
     }

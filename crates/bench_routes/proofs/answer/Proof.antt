@@ -1,98 +1,61 @@
--- The questions before `at` are answered; the room keeps its length.
+-- The pairs before k are answered; the room keeps its length.
 use mathlib.Core.Path.{_≡_}
-use Prim.Native.Nat.{_-_, _≤_}
+use Prim.Native.Nat.{_-_, _/_}
 use borrow.Author.Needs.{needs}
-use lib.ListN.{length, length-set}
-use native.Mathlib.Omega.{arith}
+use lib.ListN.{length}
 use Rattle.bench_routes.proofs.answer.Statement.{statement}
 use Rattle.bench_routes.proofs.answer.Tie as tie
 
 abbrev Inv-loop : tie.InvT-loop
-Inv-loop book asked answers₀ at₀ answers at = (at ≤ length asked) × (length answers ≡ length asked)
+Inv-loop book pairs answers₀ k₀ answers k = length pairs / 2 ≡ length answers
 
 abbrev μ-loop : tie.MeasureT-loop
-μ-loop book asked answers₀ at₀ answers at = length asked - at
+μ-loop book pairs answers₀ k₀ answers k = length pairs / 2 - k
 
 loop-holds : tie.Need-loop-holds Inv-loop μ-loop
 loop-holds c = search needs
 
-sub-loop : tie.Need-sub-loop Inv-loop μ-loop
-sub-loop c = search needs
+mul-route : tie.Need-mul-route Inv-loop μ-loop
+mul-route c = search needs
 
-shared-slice-read-word : tie.Need-shared-slice-read-word Inv-loop μ-loop
-shared-slice-read-word c = search needs
+mul-route-2 : tie.Need-mul-route-2 Inv-loop μ-loop
+mul-route-2 c = search needs
 
-add-word : tie.Need-add-word Inv-loop μ-loop
-add-word c = search needs
+shared-slice-read-route : tie.Need-shared-slice-read-route Inv-loop μ-loop
+shared-slice-read-route c = search needs
 
-shared-slice-read-word-2 : tie.Need-shared-slice-read-word-2 Inv-loop μ-loop
-shared-slice-read-word-2 c = search needs
+mul-route-3 : tie.Need-mul-route-3 Inv-loop μ-loop
+mul-route-3 c = search needs
 
-word-requires : tie.Need-word-requires Inv-loop μ-loop
-word-requires c κs = search needs
+add-route : tie.Need-add-route Inv-loop μ-loop
+add-route c = search needs
 
-add-word-2 : tie.Need-add-word-2 Inv-loop μ-loop
-add-word-2 c = search needs
+mul-route-4 : tie.Need-mul-route-4 Inv-loop μ-loop
+mul-route-4 c = search needs
 
-shared-slice-read-word-3 : tie.Need-shared-slice-read-word-3 Inv-loop μ-loop
-shared-slice-read-word-3 c = search needs
-
-add-word-3 : tie.Need-add-word-3 Inv-loop μ-loop
-add-word-3 c = search needs
-
-shared-slice-read-word-4 : tie.Need-shared-slice-read-word-4 Inv-loop μ-loop
-shared-slice-read-word-4 c = search needs
-
-word-requires-2 : tie.Need-word-requires-2 Inv-loop μ-loop
-word-requires-2 c κs = search needs
+shared-slice-read-route-2 : tie.Need-shared-slice-read-route-2 Inv-loop μ-loop
+shared-slice-read-route-2 c = search needs
 
 route-requires : tie.Need-route-requires Inv-loop μ-loop
 route-requires c κs = search needs
 
-said-requires : tie.Need-said-requires Inv-loop μ-loop
-said-requires c κs = search needs
+found-requires : tie.Need-found-requires Inv-loop μ-loop
+found-requires c κs = search needs
 
-array-read-answers : tie.Need-array-read-answers Inv-loop μ-loop
-array-read-answers c = search needs
+mul-answers : tie.Need-mul-answers Inv-loop μ-loop
+mul-answers c = search needs
 
 slice-write-answers : tie.Need-slice-write-answers Inv-loop μ-loop
 slice-write-answers c = search needs
 
-array-read-answers-2 : tie.Need-array-read-answers-2 Inv-loop μ-loop
-array-read-answers-2 c = search needs
-
-add-answers : tie.Need-add-answers Inv-loop μ-loop
-add-answers c = search needs
-
-slice-write-answers-2 : tie.Need-slice-write-answers-2 Inv-loop μ-loop
-slice-write-answers-2 c = simp length-set (omega arith)
-
-array-read-answers-3 : tie.Need-array-read-answers-3 Inv-loop μ-loop
-array-read-answers-3 c = search needs
-
-add-answers-2 : tie.Need-add-answers-2 Inv-loop μ-loop
-add-answers-2 c = search needs
-
-slice-write-answers-3 : tie.Need-slice-write-answers-3 Inv-loop μ-loop
-slice-write-answers-3 c = simp length-set (omega arith)
-
-array-read-answers-4 : tie.Need-array-read-answers-4 Inv-loop μ-loop
-array-read-answers-4 c = search needs
-
-add-answers-3 : tie.Need-add-answers-3 Inv-loop μ-loop
-add-answers-3 c = search needs
-
-slice-write-answers-4 : tie.Need-slice-write-answers-4 Inv-loop μ-loop
-slice-write-answers-4 c = simp length-set (omega arith)
-
-add-at : tie.Need-add-at Inv-loop μ-loop
-add-at c = search needs
+add-k : tie.Need-add-k Inv-loop μ-loop
+add-k c = search needs
 
 loop-less : tie.Need-loop-less Inv-loop μ-loop
 loop-less c = search needs
 
 loop-again : tie.Need-loop-again Inv-loop μ-loop
-loop-again c = (omega arith, simp length-set (omega arith))
+loop-again c = search needs
 
 same-length : tie.Need-same-length Inv-loop μ-loop
 same-length c = search needs
@@ -107,30 +70,18 @@ answer-spec =
     Inv-loop
     μ-loop
     loop-holds
-    sub-loop
-    shared-slice-read-word
-    add-word
-    shared-slice-read-word-2
-    word-requires
-    add-word-2
-    shared-slice-read-word-3
-    add-word-3
-    shared-slice-read-word-4
-    word-requires-2
+    mul-route
+    mul-route-2
+    shared-slice-read-route
+    mul-route-3
+    add-route
+    mul-route-4
+    shared-slice-read-route-2
     route-requires
-    said-requires
-    array-read-answers
+    found-requires
+    mul-answers
     slice-write-answers
-    array-read-answers-2
-    add-answers
-    slice-write-answers-2
-    array-read-answers-3
-    add-answers-2
-    slice-write-answers-3
-    array-read-answers-4
-    add-answers-3
-    slice-write-answers-4
-    add-at
+    add-k
     loop-less
     loop-again
     same-length

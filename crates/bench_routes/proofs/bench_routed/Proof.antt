@@ -1,37 +1,42 @@
--- Nothing is written before the two lengths are compared and the book is judged.
+-- The book that a sheet hands over is sound.
+use Rattle.handed.proofs.Overs.{handed-sound}
 use borrow.Author.Needs.{needs}
 use Rattle.bench_routes.proofs.bench_routed.Statement.{statement}
 use Rattle.bench_routes.proofs.bench_routed.Tie as tie
 
-returns : tie.Need-returns
-returns c = search needs
+book-of-requires : tie.Need-book-of-requires
+book-of-requires c κs = search needs
 
-filed-requires : tie.Need-filed-requires
-filed-requires c κs = search needs
+enum-told : tie.Need-enum-told
+enum-told c = search needs
 
-unsound-requires : tie.Need-unsound-requires
-unsound-requires c κs = search needs
+routes-requires : tie.Need-routes-requires
+routes-requires c κs = handed-sound (c .before .before .before .book-of .ensures) (c .before .enum-told .given .1)
 
-returns-2 : tie.Need-returns-2
-returns-2 c = search needs
+enum-known-answer : tie.Need-enum-known-answer
+enum-known-answer c = search needs
 
-answer-sound-requires : tie.Need-answer-sound-requires
-answer-sound-requires c κs = (c .before .before .unsound .ensures .1 (c .before .if2 .left), search needs)
+refused-requires : tie.Need-refused-requires
+refused-requires c κs = search needs
 
 same-length : tie.Need-same-length
 same-length c = search needs
 
-returns-3 : tie.Need-returns-3
-returns-3 c = λ e. search needs
+returns : tie.Need-returns
+returns c = search needs
+
+returns-2 : tie.Need-returns-2
+returns-2 c = search needs
 
 pub bench-routed-spec : {M : Type 1} → statement M
 bench-routed-spec =
     tie.close
     (tie.spec
-    returns
-    filed-requires
-    unsound-requires
-    returns-2
-    answer-sound-requires
+    book-of-requires
+    enum-told
+    routes-requires
+    enum-known-answer
+    refused-requires
     same-length
-    returns-3)
+    returns
+    returns-2)
