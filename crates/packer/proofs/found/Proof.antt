@@ -1,4 +1,5 @@
 -- The number of each case.
+use native.Mathlib.Omega.{arith}
 use borrow.Author.Needs.{needs}
 use Rattle.packer.proofs.found.Statement.{statement}
 use Rattle.packer.proofs.found.Tie as tie
@@ -34,7 +35,7 @@ returns : tie.Need-returns
 returns c = rw (c .value .ensures, c .before .before .answer .given .1)
 
 returns-2 : tie.Need-returns-2
-returns-2 c = rw (c .value2 .ensures, c .before .before .answer2 .given .1)
+returns-2 c = rw (c .value2 .ensures, c .before .before .answer2 .given .1) (omega arith)
 
 returns-3 : tie.Need-returns-3
 returns-3 c = search needs
