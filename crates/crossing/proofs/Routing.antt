@@ -1,5 +1,5 @@
 -- The frontier over what is stopped: one stage on, empty, and at its end.
-use mathlib.Core.Path.{_≡_, sym, ap, subst, _∙_}
+use mathlib.Core.Path.{_≡_, sym, ap₂, subst, _∙_}
 use mathlib.Core.Bool.{Bool}
 use Prim.Native.Nat.{ℕ, suc, _+_, _*_, _≤_, _<_}
 use native.Mathlib.Numerals.{add-one}
@@ -9,7 +9,7 @@ use Rattle.frontier.specs.declared.Front.{Front}
 use Rattle.frontier.specs.declared.Stops.{Stops}
 use Rattle.paths.specs.Clear.{Rule}
 use Rattle.frontier.specs.Columns.{highRight}
-use Rattle.frontier.specs.Stops.{stopsAt, StopsUnder}
+use Rattle.frontier.specs.Stops.{linksOf, setAt, StopsUnder}
 use Rattle.frontier.specs.Frontier.{lesser, advanced, mirrored}
 use Rattle.paths.proofs.Named.{stage-named, none-clear}
 use Rattle.frontier.proofs.Frontier.{Looks, Holds, Found, looks-from, advanced-holds, onward-best, found-first}
@@ -17,15 +17,15 @@ use Rattle.routes.specs.declared.Found as answer
 use Rattle.routes.specs.Routed.{Routed}
 
 module _ (n : ℕ) (stops : Rule) (s d : ℕ) (source : s < size n) where
-  -- one stage on, by what is stopped there
-  pub front-on : (w : Stops) → StopsUnder n stops s d w → (i t : ℕ) (right : Bool) → i < n → highRight n s d i ≡ right → t ≡ bit i d
-      → (front next : Front) → next ≡ advanced n right t (stopsAt i w) front → Holds n stops s d i front → Holds n stops s d (i + 1) next
-  front-on w under i t right h er et front next e held =
-      let look : Looks n stops s d i right (stopsAt i w) =
-      subst (λ (b : Bool). Looks n stops s d i b (stopsAt i w)) er (looks-from n stops s d i (highRight n s d i) (stopsAt i w) (under i h)) in
-      let on = advanced-holds n stops s d source i h right er (stopsAt i w) look front held in
-      subst (λ (k : ℕ). Holds n stops s d k next) (sym (add-one i))
-      (subst (Holds n stops s d (suc i)) (sym (e ∙ ap (λ (x : ℕ). advanced n right x (stopsAt i w) front) et)) on)
+  -- one stage on, by the set that is stopped there
+  pub front-on : (w : Stops) → StopsUnder n stops s d w → (i t set : ℕ) (right : Bool) → i < n → highRight n s d i ≡ right → t ≡ bit i d → set ≡ setAt i w
+      → (front next : Front) → next ≡ advanced n right t (linksOf set) front → Holds n stops s d i front → Holds n stops s d (i + 1) next
+  front-on w under i t set right h er et es front next e held =
+      let look : Looks n stops s d i right (linksOf (setAt i w)) =
+      subst (λ (b : Bool). Looks n stops s d i b (linksOf (setAt i w))) er (looks-from n stops s d i (highRight n s d i) (linksOf (setAt i w)) (under i h)) in
+      let on = advanced-holds n stops s d source i h right er (linksOf (setAt i w)) look front held in
+      let same = e ∙ ap₂ (λ (x y : ℕ). advanced n right x (linksOf y) front) et es in
+      subst (λ (k : ℕ). Holds n stops s d k next) (sym (add-one i)) (subst (Holds n stops s d (suc i)) (sym same) on)
 
   -- a frontier that is reached no more
   pub none-ahead : (i : ℕ) → i < n → (front next : Front) → Holds n stops s d i front → lesser (front .high) (front .low) < size n

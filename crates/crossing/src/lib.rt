@@ -13,16 +13,18 @@ pub fn cross(n: u8, source: u16, destination: u16, stops: Stops) -> Found
     requires { ⌜ (n ≤ 12) × (source < size n) × (destination < size n) ⌝ }
     ensures { λ r. ⌜ ((rule : Rule) → StopsUnder n rule source destination stops → Routed n rule source destination r) ⌝ }
 {
-    let apart = std::num::wrapping_sub_u16(destination, source);
+    let distance = frontier::distance(source, destination);
     let mut front = frontier::at_source(n);
+    let mut sets = stops.sets;
     let mut i = 0;
     while i < n {
         let t = fabric::bit_of(i, destination);
-        let right = fabric::bit_of(i, apart) == 0;
-        front = frontier::advance(n, i, front, right, t, stops);
+        let right = fabric::bit_of(i, distance) == 0;
+        front = frontier::advance(n, front, right, t, (sets % 16) as u8);
         if !frontier::reached(n, front) {
             return Found::None(i);
         }
+        sets = sets / 16;
         i += 1;
     }
     Found::Tag(scheme::tag_of(n, destination, frontier::first_states(n, front)))

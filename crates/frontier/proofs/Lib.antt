@@ -1,9 +1,9 @@
 pub mod Mirrored
 pub mod Pivots
-pub mod Apart
+pub mod HighSwitch
 pub mod Places
 pub mod Best
 pub mod Sides
 pub mod Frontier
-pub mod Words
+pub mod Sets
 pub mod Filled

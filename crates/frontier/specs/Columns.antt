@@ -2,12 +2,16 @@
 -- arrives at one of them.
 use mathlib.Core.Path.{_≡_}
 use mathlib.Core.Bool.{Bool, cond}
-use Prim.Native.Nat.{ℕ, zero, suc, _<_}
+use Prim.Native.Nat.{ℕ, zero, suc, _+_, _%_, _≤_}
 use lib.Dec.{eqb}
 use lib.ListN.{getD}
 use Rattle.fabric.specs.Labels.{bit}
 use Rattle.fabric.specs.Links.{lands}
 use Rattle.frontier.specs.declared.Columns.{Columns}
+
+-- how far d lies above s, modulo 65,536
+abbrev pub Distance : ℕ → ℕ → ℕ → Type 0
+Distance s d far = (far + s) % 65536 ≡ d
 
 -- the high switch of a column: from the source on, straight where its bit is right, and plus where it is not
 unfoldable pub high : ℕ → ℕ → ℕ → ℕ → ℕ
@@ -29,7 +33,7 @@ straightAt n s d i = cond (highRight n s d i) (high n s d i) (low n s d i)
 abbrev pub forkAt : ℕ → ℕ → ℕ → ℕ → ℕ
 forkAt n s d i = cond (highRight n s d i) (low n s d i) (high n s d i)
 
--- what the arrays hold
+-- what the arrays hold, from column 0 to the last
 pub record ColumnsOf (n s d : ℕ) (c : Columns) : Type 0 where
-  pub straight : (i : ℕ) → i < n → getD (c .straight) i 0 ≡ straightAt n s d i
-  pub fork : (i : ℕ) → i < n → getD (c .fork) i 0 ≡ forkAt n s d i
+  pub straight : (i : ℕ) → i ≤ n → getD (c .straight) i 0 ≡ straightAt n s d i
+  pub fork : (i : ℕ) → i ≤ n → getD (c .fork) i 0 ≡ forkAt n s d i

@@ -1,7 +1,7 @@
--- Which links on ways to a destination are stopped: in words of bits, and by a rule. Nobody has to believe it.
+-- Which links on ways to a destination are stopped: in a word of sets, and by a rule. Nobody has to believe it.
 use mathlib.Core.Path.{_≡_}
-use mathlib.Core.Bool.{Bool, not, _&&_, _||_}
-use Prim.Native.Nat.{ℕ, _<_}
+use mathlib.Core.Bool.{Bool, cond, not, _&&_, _||_}
+use Prim.Native.Nat.{ℕ, _+_, _*_, _/_, _%_, _^_, _<_}
 use lib.Dec.{eqb}
 use Rattle.fabric.specs.Labels.{bit}
 use Rattle.paths.specs.Clear.{Rule}
@@ -23,22 +23,29 @@ abbrev pub stopsFrom : Rule → ℕ → ℕ → ℕ → StopsAt
 stopsFrom rule i straight fork =
     record { straight = stopping (rule i straight 0); plus = stopping (rule i fork 1); minus = stopping (rule i fork 2) }
 
-abbrev pub bitOne : ℕ → ℕ → Bool
-bitOne i x = eqb (bit i x) 1
+-- whether a set has the link of a code
+abbrev pub has : ℕ → ℕ → Bool
+has set c = eqb (bit c set) 1
 
--- what the words hold at stage i
-abbrev pub stopsAt : ℕ → Stops → StopsAt
-stopsAt i w = record { straight = bitOne i (w .straight); plus = bitOne i (w .plus); minus = bitOne i (w .minus) }
+-- the set of three links: "straight 1, plus 2, minus 4, added"
+abbrev pub setOf : Bool → Bool → Bool → ℕ
+setOf straight plus minus = cond straight 1 0 + cond plus 2 0 + cond minus 4 0
+
+-- the links of a set
+abbrev pub linksOf : ℕ → StopsAt
+linksOf set = record { straight = has set 0; plus = has set 1; minus = has set 2 }
+
+-- the set of stage i in a word of sets, four bits a stage
+abbrev pub setAt : ℕ → Stops → ℕ
+setAt i w = w .sets / 2 ^ (4 * i) % 16
 
 abbrev pub noneStopped : Stops
-noneStopped = record { straight = 0; plus = 0; minus = 0 }
+noneStopped = record { sets = 0 }
 
--- the words hold what a rule stops on ways from s to d
+-- the word holds what a rule stops on ways from s to d
 abbrev pub StopsUnder : ℕ → Rule → ℕ → ℕ → Stops → Type 0
-StopsUnder n rule s d w = (i : ℕ) → i < n → stopsAt i w ≡ stopsFrom rule i (straightAt n s d i) (forkAt n s d i)
+StopsUnder n rule s d w = (i : ℕ) → i < n → linksOf (setAt i w) ≡ stopsFrom rule i (straightAt n s d i) (forkAt n s d i)
 
--- the words with stage k's links more, where these are stopped
-pub record StageMore (k : ℕ) (straight plus minus : Bool) (old new : Stops) : Type 0 where
-  pub at : (i : ℕ) → bitOne i (new .straight) ≡ (bitOne i (old .straight) || (eqb i k && straight))
-  pub at-plus : (i : ℕ) → bitOne i (new .plus) ≡ (bitOne i (old .plus) || (eqb i k && plus))
-  pub at-minus : (i : ℕ) → bitOne i (new .minus) ≡ (bitOne i (old .minus) || (eqb i k && minus))
+-- the word with the links of a set more at stage k
+abbrev pub SetMore : ℕ → ℕ → Stops → Stops → Type 0
+SetMore k set old new = (i c : ℕ) → c < 3 → has (setAt i new) c ≡ (has (setAt i old) c || (eqb i k && has set c))

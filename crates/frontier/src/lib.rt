@@ -3,15 +3,17 @@ ghost use mathlib.Core.Path.{_≡_};
 ghost use mathlib.Core.Bool.{cond, true, false};
 ghost use Prim.Native.Nat.{_+_, _*_, _≤_, _<_};
 ghost use Rattle.fabric.specs.Labels.{size};
-ghost use Rattle.frontier.specs.Stops.{stopsAt};
+ghost use Rattle.frontier.specs.Stops.{linksOf};
 ghost use Rattle.frontier.specs.Frontier.{start, lostBy, through, lesser, advanced, mirrored};
 
 mod ways; // ways.rt: the two switches of each column
 mod links; // links.rt: which of their links are stopped
 
 pub use links::none_stopped;
-pub use links::with_stage;
+pub use links::set_of;
+pub use links::with_stopped;
 pub use ways::columns_between;
+pub use ways::distance;
 
 // The two switches of a column: the high one, and the low one 2^i below it. Of each is held the first clear walk that reaches
 // it, as the states of its steps in one number, that of stage 0 highest: of two walks the lesser comes first. N or more is
@@ -27,12 +29,11 @@ pub struct Columns {
     pub fork: [u16; 13],
 }
 
-// Of the links that lead toward the destination out of a column's two switches, which ones are stopped: the straight link of the switch
-// whose bit is right, and the nonstraight links of the other, which forks. Bit i tells of stage i.
+// Of the links that lead toward the destination out of a column's two switches, those that are stopped: the straight link of the switch
+// whose bit is right, and the nonstraight links of the other, which forks. A set of them at each stage, straight 1, plus 2, minus 4, in four
+// bits a stage, stage 0 lowest.
 pub struct Stops {
-    pub straight: u32,
-    pub plus: u32,
-    pub minus: u32,
+    pub sets: u64,
 }
 
 // In column 0 the source alone is reached.
@@ -81,17 +82,17 @@ fn chosen(first: bool, p: u32, q: u32) -> u32
     if first { p } else { q }
 }
 
-// The frontier one stage on, toward a destination with bit t. The switch whose bit is right goes straight; the other one
-// forks, plus up and minus down.
-pub fn advance(n: u8, i: u8, front: Front, right: bool, t: u8, stops: Stops) -> Front
-    requires { ⌜ (n ≤ 12) × (i < 12) × (t < 2) × (front .high < 33554432) × (front .low < 33554432) ⌝ }
-    ensures { λ r. ⌜ r ≡ advanced n right t (stopsAt i stops) front ⌝ }
+// The frontier one stage on, toward a destination with bit t, where the links of a set are stopped. The switch whose bit is right goes
+// straight; the other one forks, plus up and minus down.
+pub fn advance(n: u8, front: Front, right: bool, t: u8, set: u8) -> Front
+    requires { ⌜ (n ≤ 12) × (t < 2) × (front .high < 33554432) × (front .low < 33554432) ⌝ }
+    ensures { λ r. ⌜ r ≡ advanced n right t (linksOf set) front ⌝ }
 {
     let stays = chosen(right, front.high, front.low);
     let forks = chosen(right, front.low, front.high);
-    let straight = by_link(n, stays, links::stopped(i, stops.straight), 0);
-    let up = by_link(n, forks, links::stopped(i, stops.plus), 1 - t);
-    let down = by_link(n, forks, links::stopped(i, stops.minus), t);
+    let straight = by_link(n, stays, links::in_set(set, 0), 0);
+    let up = by_link(n, forks, links::in_set(set, 1), 1 - t);
+    let down = by_link(n, forks, links::in_set(set, 2), t);
     let met = first_of(straight, chosen(right, up, down));
     Front {
         high: chosen(right, met, up),

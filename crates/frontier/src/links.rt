@@ -1,47 +1,44 @@
-// Which links on ways to a destination are stopped.
+// Which links on ways to a destination are stopped: a set at each stage, as a notice has it.
 use super::Stops;
 ghost use mathlib.Core.Path.{_≡_};
 ghost use mathlib.Core.Bool.{cond};
-ghost use Prim.Native.Nat.{_^_, _≤_, _<_};
-ghost use Rattle.frontier.specs.Stops.{bitOne, noneStopped, StageMore};
+ghost use Prim.Native.Nat.{_≤_, _<_};
+ghost use Rattle.frontier.specs.Stops.{has, setOf, noneStopped, SetMore};
 
 pub fn none_stopped() -> Stops
     ensures { λ r. ⌜ r ≡ noneStopped ⌝ }
 {
+    Stops { sets: 0 }
+}
+
+// Whether a set has the link of a code.
+pub fn in_set(set: u8, code: u8) -> bool
+    requires { ⌜ code ≤ 12 ⌝ }
+    ensures { λ r. ⌜ r ≡ has set code ⌝ }
+{
+    fabric::bit_of(code, set as u16) == 1
+}
+
+// What a link adds to a set.
+fn part(stopped: bool, link: u8) -> u8
+    ensures { λ r. ⌜ (r ≡ cond stopped link 0) × (r ≤ link) ⌝ }
+{
+    if stopped { link } else { 0 }
+}
+
+// The set of those of a stage's three links that are stopped.
+pub fn set_of(straight: bool, plus: bool, minus: bool) -> u8
+    ensures { λ r. ⌜ (r ≡ setOf straight plus minus) × (r < 8) ⌝ }
+{
+    part(straight, 1) + part(plus, 2) + part(minus, 4)
+}
+
+// What is stopped, with the links of a set more at stage i.
+pub fn with_stopped(stops: Stops, i: u8, set: u8) -> Stops
+    requires { ⌜ (i ≤ 12) × (set < 8) ⌝ }
+    ensures { λ r. ⌜ SetMore i set stops r ⌝ }
+{
     Stops {
-        straight: 0,
-        plus: 0,
-        minus: 0,
-    }
-}
-
-// Whether a link is stopped at stage i.
-pub fn stopped(i: u8, link: u32) -> bool
-    requires { ⌜ i < 32 ⌝ }
-    ensures { λ r. ⌜ r ≡ bitOne i link ⌝ }
-{
-    (link >> i) % 2 == 1
-}
-
-// The bit of stage i, where a link is stopped there.
-fn bit_where(stop: bool, i: u8) -> u32
-    requires { ⌜ i ≤ 12 ⌝ }
-    ensures { λ r. ⌜ r ≡ cond stop (2 ^ i) 0 ⌝ }
-{
-    if stop {
-        return fabric::size(i) as u32;
-    }
-    0
-}
-
-// What is stopped, with those of stage i's three links more that are stopped.
-pub fn with_stage(stops: Stops, i: u8, straight: bool, plus: bool, minus: bool) -> Stops
-    requires { ⌜ i ≤ 12 ⌝ }
-    ensures { λ r. ⌜ StageMore i straight plus minus stops r ⌝ }
-{
-    Stops {
-        straight: stops.straight | bit_where(straight, i),
-        plus: stops.plus | bit_where(plus, i),
-        minus: stops.minus | bit_where(minus, i),
+        sets: stops.sets | ((set as u64) << (4 * i)),
     }
 }

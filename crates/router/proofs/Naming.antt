@@ -1,9 +1,9 @@
 -- The links on ways that a target names: all are of one stage, its own.
 use mathlib.Core.Path.{_≡_, refl, sym, ap, _∙_}
-use mathlib.Core.Bool.{Bool, true, false, _&&_, _||_}
+use mathlib.Core.Bool.{Bool, true, false, cond, _&&_, _||_}
 use mathlib.Core.List.{List}
 use mathlib.Core.Logic.{⊎-elim}
-use Prim.Native.Nat.{ℕ, _+_, _-_, _≤_}
+use Prim.Native.Nat.{ℕ, _+_, _-_, _≤_, _<_}
 use native.Mathlib.Decide.{ℕ-discrete}
 use native.Mathlib.Omega.{arith}
 use borrow.Author.Tests.{eq-eqb, ne-eqb}
@@ -13,112 +13,98 @@ use lib.ListN.{getD}
 use Rattle.table.proofs.Checks.{neither}
 use Rattle.fabric.specs.Links.{lands}
 use Rattle.frontier.specs.declared.Stops.{Stops}
-use Rattle.frontier.specs.Stops.{bitOne, StageMore}
+use Rattle.frontier.specs.Stops.{has, setAt}
 use Rattle.notices.specs.declared.Target.the-variants.{Links, Switch, Pattern}
 use Rattle.notices.specs.Targets.{setHas}
-use Rattle.router.specs.Named.{Ways, WithTarget, WithSet}
+use Rattle.router.specs.Named.{outOf, Ways, WithTarget, WithSet, WithInputs}
 
 nothing-more : (b : Bool) {more : Bool} → more ≡ false → b ≡ (b || more)
 nothing-more true e = refl
 nothing-more false e = sym e
 
 -- a test of the switches of a stage, there and nowhere else
-module _ (labels : List ℕ) (test : ℕ → Bool) (stage : ℕ) (has : Bool) where
-  own-set : (i : ℕ) → (eqb i stage && (test (getD labels stage 0) && has)) ≡ (eqb i stage && test (getD labels i 0) && has)
-  own-set i = go (ℕ-discrete i stage)
+module _ (straights forks : List ℕ) (test : ℕ → Bool) (stage : ℕ) where
+  own-set : (i c : ℕ) (has : Bool)
+      → (eqb i stage && (cond (eqb c 0) (test (getD straights stage 0)) (test (getD forks stage 0)) && has)) ≡ (eqb i stage && test (outOf straights forks i c) && has)
+  own-set i c has = go (ℕ-discrete i stage)
     where
-      go : Dec (i ≡ stage) → (eqb i stage && (test (getD labels stage 0) && has)) ≡ (eqb i stage && test (getD labels i 0) && has)
-      go (yes e) = rw (eq-eqb i stage e, e)
+      of-one : (b : Bool) (x y : ℕ) → cond b (test x) (test y) ≡ test (cond b x y)
+      of-one true x y = refl
+      of-one false x y = refl
+
+      go : Dec (i ≡ stage)
+          → (eqb i stage && (cond (eqb c 0) (test (getD straights stage 0)) (test (getD forks stage 0)) && has)) ≡ (eqb i stage && test (outOf straights forks i c) && has)
+      go (yes e) = rw (eq-eqb i stage e, e) (ap (λ (b : Bool). b && has) (of-one (eqb c 0) (getD straights stage 0) (getD forks stage 0)))
       go (no e) = rw (ne-eqb i stage e)
 
-  none-set : test (getD labels stage 0) ≡ false → (i : ℕ) → (eqb i stage && test (getD labels i 0) && has) ≡ false
-  none-set f i = sym (own-set i) ∙ rw f (last (eqb i stage))
+  none-set : test (getD straights stage 0) ≡ false → test (getD forks stage 0) ≡ false → (i c : ℕ) (has : Bool) → (eqb i stage && test (outOf straights forks i c) && has) ≡ false
+  none-set es ef i c has = sym (own-set i c has) ∙ rw (es, ef) (none (eqb i stage) (eqb c 0))
     where
-      last : (b : Bool) → (b && false) ≡ false
-      last true = refl
-      last false = refl
+      none : (a b : Bool) → (a && (cond b false false && has)) ≡ false
+      none true true = refl
+      none true false = refl
+      none false b = refl
 
 module _ (n : ℕ) (straights forks : List ℕ) (stage : ℕ) (set : ℕ) (old new : Stops) where
+  -- a set of the switches that meet a test
+  tested-more : (test : ℕ → Bool) → WithSet stage (test (getD straights stage 0)) (test (getD forks stage 0)) set old new → (i c : ℕ) → c < 3
+      → has (setAt i new) c ≡ (has (setAt i old) c || (eqb i stage && test (outOf straights forks i c) && setHas set c))
+  tested-more test w i c h = w i c h ∙ ap (λ (b : Bool). has (setAt i old) c || b) (own-set straights forks test stage i c (setHas set c))
+
   pub links-more : (switch : ℕ) → WithSet stage (eqb (getD straights stage 0) switch) (eqb (getD forks stage 0) switch) set old new
       → WithTarget n straights forks (Links stage switch set) old new
-  links-more switch w =
-      let test : ℕ → Bool = λ j. eqb j switch in
-      record {
-        straight = λ i h. w .at i ∙ ap (λ (b : Bool). bitOne i (old .straight) || b) (own-set straights test stage (setHas set 0) i);
-        plus = λ i h. w .at-plus i ∙ ap (λ (b : Bool). bitOne i (old .plus) || b) (own-set forks test stage (setHas set 1) i);
-        minus = λ i h. w .at-minus i ∙ ap (λ (b : Bool). bitOne i (old .minus) || b) (own-set forks test stage (setHas set 2) i);
-      }
+  links-more switch w = record { at = λ i c inside h. tested-more (λ j. eqb j switch) w i c h }
 
   pub pattern-more : (value mask : ℕ) → WithSet stage (eqb (bitAnd (getD straights stage 0) mask) value) (eqb (bitAnd (getD forks stage 0) mask) value) set old new
       → WithTarget n straights forks (Pattern stage value mask set) old new
-  pattern-more value mask w =
-      let test : ℕ → Bool = λ j. eqb (bitAnd j mask) value in
-      record {
-        straight = λ i h. w .at i ∙ ap (λ (b : Bool). bitOne i (old .straight) || b) (own-set straights test stage (setHas set 0) i);
-        plus = λ i h. w .at-plus i ∙ ap (λ (b : Bool). bitOne i (old .plus) || b) (own-set forks test stage (setHas set 1) i);
-        minus = λ i h. w .at-minus i ∙ ap (λ (b : Bool). bitOne i (old .minus) || b) (own-set forks test stage (setHas set 2) i);
-      }
+  pattern-more value mask w = record { at = λ i c inside h. tested-more (λ j. eqb (bitAnd j mask) value) w i c h }
 
   -- links of neither switch
   pub links-none : (switch : ℕ) → (eqb (getD straights stage 0) switch || eqb (getD forks stage 0) switch) ≡ false
       → WithTarget n straights forks (Links stage switch set) old old
   links-none switch e =
-      let far = neither (eqb (getD straights stage 0) switch) (eqb (getD forks stage 0) switch) e in
-      let test : ℕ → Bool = λ j. eqb j switch in
-      record {
-        straight = λ i h. nothing-more (bitOne i (old .straight)) (none-set straights test stage (setHas set 0) (far .0) i);
-        plus = λ i h. nothing-more (bitOne i (old .plus)) (none-set forks test stage (setHas set 1) (far .1) i);
-        minus = λ i h. nothing-more (bitOne i (old .minus)) (none-set forks test stage (setHas set 2) (far .1) i);
-      }
+      let other = neither (eqb (getD straights stage 0) switch) (eqb (getD forks stage 0) switch) e in
+      record { at = λ i c inside h. nothing-more (has (setAt i old) c) (none-set straights forks (λ j. eqb j switch) stage (other .0) (other .1) i c (setHas set c)) }
 
 -- the input links of a switch
 module _ (n : ℕ) (straights forks : List ℕ) (column switch : ℕ) (old : Stops) where
   pub column-0-none : column ≡ 0 → WithTarget n straights forks (Switch column switch) old old
-  column-0-none e =
-      record {
-        straight = λ i h. nothing-more (bitOne i (old .straight)) (none i 0 (getD straights i 0));
-        plus = λ i h. nothing-more (bitOne i (old .plus)) (none i 1 (getD forks i 0));
-        minus = λ i h. nothing-more (bitOne i (old .minus)) (none i 2 (getD forks i 0));
-      }
+  column-0-none e = record { at = λ i c inside h. nothing-more (has (setAt i old) c) (none i c (outOf straights forks i c)) }
     where
       none : (i c j : ℕ) → (eqb (i + 1) column && eqb (lands n i c j) switch) ≡ false
       none i c j = rw (ne-eqb (i + 1) column (λ f. omega arith))
 
   module _ (some : column ≡ 0 → ⊥) where
-    own-end : (labels : List ℕ) (c i : ℕ)
-        → (eqb i (column - 1) && eqb (lands n (column - 1) c (getD labels (column - 1) 0)) switch) ≡ (eqb (i + 1) column && eqb (lands n i c (getD labels i 0)) switch)
-    own-end labels c i = go (ℕ-discrete i (column - 1))
+    abbrev leads : ℕ → ℕ → Bool
+    leads i c = eqb (lands n i c (outOf straights forks i c)) switch
+
+    own-end : (i c : ℕ) → (eqb i (column - 1) && leads (column - 1) c) ≡ (eqb (i + 1) column && leads i c)
+    own-end i c = go (ℕ-discrete i (column - 1))
       where
-        go : Dec (i ≡ column - 1)
-            → (eqb i (column - 1) && eqb (lands n (column - 1) c (getD labels (column - 1) 0)) switch) ≡ (eqb (i + 1) column && eqb (lands n i c (getD labels i 0)) switch)
+        go : Dec (i ≡ column - 1) → (eqb i (column - 1) && leads (column - 1) c) ≡ (eqb (i + 1) column && leads i c)
         go (yes e) = rw (eq-eqb i (column - 1) e, eq-eqb (i + 1) column (omega arith), e)
         go (no e) = rw (ne-eqb i (column - 1) e, ne-eqb (i + 1) column (λ f. e (omega arith)))
 
-    pub switch-more : (new : Stops)
-        → StageMore (column - 1) (eqb (getD straights (column - 1) 0) switch) (eqb (lands n (column - 1) 1 (getD forks (column - 1) 0)) switch)
-        (eqb (lands n (column - 1) 2 (getD forks (column - 1) 0)) switch) old new
-        → WithTarget n straights forks (Switch column switch) old new
-    switch-more new w =
-        record {
-          straight = λ i h. w .at i ∙ ap (λ (b : Bool). bitOne i (old .straight) || b) (own-end straights 0 i);
-          plus = λ i h. w .at-plus i ∙ ap (λ (b : Bool). bitOne i (old .plus) || b) (own-end forks 1 i);
-          minus = λ i h. w .at-minus i ∙ ap (λ (b : Bool). bitOne i (old .minus) || b) (own-end forks 2 i);
-        }
+    pub switch-more : (new : Stops) → WithInputs n straights forks (column - 1) switch old new → WithTarget n straights forks (Switch column switch) old new
+    switch-more new w = record { at = λ i c inside h. w i c h ∙ ap (λ (b : Bool). has (setAt i old) c || b) (own-end i c) }
 
-    -- where neither plus nor minus leads to the switch, straight does not either
-    pub switch-none : Ways n straights forks → column ≤ n
-        → (eqb (lands n (column - 1) 1 (getD forks (column - 1) 0)) switch || eqb (lands n (column - 1) 2 (getD forks (column - 1) 0)) switch) ≡ false
+    -- where the switch is none of its column's two, no link on ways leads to it
+    pub switch-none : Ways n straights forks → column ≤ n → (eqb (getD straights column 0) switch || eqb (getD forks column 0) switch) ≡ false
         → WithTarget n straights forks (Switch column switch) old old
-    switch-none ways inside e =
-        let ends = neither (eqb (lands n (column - 1) 1 (getD forks (column - 1) 0)) switch) (eqb (lands n (column - 1) 2 (getD forks (column - 1) 0)) switch) e in
-        let met : eqb (getD straights (column - 1) 0) switch ≡ false =
-        ⊎-elim (λ f. ap (λ (j : ℕ). eqb j switch) (sym f) ∙ ends .0) (λ f. ap (λ (j : ℕ). eqb j switch) (sym f) ∙ ends .1) (ways .met (column - 1) (omega arith)) in
-        record {
-          straight = λ i h. nothing-more (bitOne i (old .straight)) (sym (own-end straights 0 i) ∙ rw met (last (eqb i (column - 1))));
-          plus = λ i h. nothing-more (bitOne i (old .plus)) (sym (own-end forks 1 i) ∙ rw (ends .0) (last (eqb i (column - 1))));
-          minus = λ i h. nothing-more (bitOne i (old .minus)) (sym (own-end forks 2 i) ∙ rw (ends .1) (last (eqb i (column - 1))));
-        }
+    switch-none ways inside e = record { at = λ i c _ h. nothing-more (has (setAt i old) c) (sym (own-end i c) ∙ rw (elsewhere c h) (last (eqb i (column - 1)))) }
       where
+        other : (eqb (getD straights column 0) switch ≡ false) × (eqb (getD forks column 0) switch ≡ false)
+        other = neither (eqb (getD straights column 0) switch) (eqb (getD forks column 0) switch) e
+
+        own : column - 1 + 1 ≡ column
+        own = omega arith
+
+        elsewhere : (c : ℕ) → c < 3 → leads (column - 1) c ≡ false
+        elsewhere c h =
+            ⊎-elim (λ f. ap (λ (j : ℕ). eqb j switch) (f ∙ ap (λ (k : ℕ). getD straights k 0) own) ∙ other .0)
+            (λ f. ap (λ (j : ℕ). eqb j switch) (f ∙ ap (λ (k : ℕ). getD forks k 0) own) ∙ other .1)
+            (ways .ends (column - 1) c (omega arith) h)
+
         last : (b : Bool) → (b && false) ≡ false
         last true = refl
         last false = refl

@@ -1,7 +1,9 @@
-// Which links on ways from a source to a destination a notice names. It is held against the two switches of its own stage alone.
-// A notice of one switch names neither in most questions, and is passed over; a pattern is not, since a test of it is wrong too often.
+// Which links on ways from a source to a destination a notice names. It is held against the two switches of its stage, or of its
+// column where it stops a switch. A notice of one switch names neither in most questions, and is passed over; a pattern is not, since a
+// test of it is wrong too often.
 use frontier::Stops;
-use frontier::with_stage;
+use frontier::set_of;
+use frontier::with_stopped;
 use notices::Notice;
 use notices::Target;
 ghost use mathlib.Core.Path.{_≡_};
@@ -9,7 +11,7 @@ ghost use mathlib.Core.Bool.{false};
 ghost use Prim.Native.Nat.{ℕ, _≤_, _<_};
 ghost use Rattle.notices.specs.declared.Target.the-variants.{Links, Switch, Pattern};
 ghost use Rattle.notices.specs.Notices.{unfit};
-ghost use Rattle.router.specs.Named.{Ways, WithTarget, WithSet};
+ghost use Rattle.router.specs.Named.{Ways, WithTarget, WithSet, WithInputs};
 
 // What is stopped, with the links more that a notice names.
 pub fn with_notice(
@@ -90,17 +92,10 @@ fn with_set(stage: u8, straight: bool, fork: bool, set: u8, stops: Stops) -> Sto
     requires { ⌜ stage ≤ 12 ⌝ }
     ensures { λ r. ⌜ WithSet stage straight fork set stops r ⌝ }
 {
-    let links = set as u16;
-    with_stage(
-        stops,
-        stage,
-        table::both(straight, fabric::bit_of(0, links) == 1),
-        table::both(fork, fabric::bit_of(1, links) == 1),
-        table::both(fork, fabric::bit_of(2, links) == 1),
-    )
+    with_stopped(stops, stage, set_of(straight, fork, fork) & set)
 }
 
-// The input links of a switch, which leave the column before its own. Where the straight link leads, plus or minus leads as well.
+// The input links of a switch, which leave the column before its own. Every link on ways leads to one of a column's two switches.
 fn with_switch(
     n: u8,
     straights: &[u16; 13],
@@ -115,12 +110,29 @@ fn with_switch(
     if column == 0 {
         return stops;
     }
-    let i = column - 1;
-    let fork = forks[i as usize];
-    let plus = fabric::landing(n, i, 1, fork) == switch;
-    let minus = fabric::landing(n, i, 2, fork) == switch;
-    if table::either(plus, minus) {
-        return with_stage(stops, i, straights[i as usize] == switch, plus, minus);
+    let straight = straights[column as usize] == switch;
+    let fork = forks[column as usize] == switch;
+    if table::either(straight, fork) {
+        return with_inputs(n, straights, forks, column - 1, switch, stops);
     }
     stops
+}
+
+// The links of stage i that lead to a switch.
+fn with_inputs(
+    n: u8,
+    straights: &[u16; 13],
+    forks: &[u16; 13],
+    i: u8,
+    switch: u16,
+    stops: Stops,
+) -> Stops
+    requires { ⌜ (n ≤ 12) × (i < n) × Ways n (now straights) (now forks) ⌝ }
+    ensures { λ r. ⌜ WithInputs n (now (straights .entry)) (now (forks .entry)) i switch stops r ⌝ }
+{
+    let fork = forks[i as usize];
+    let straight = straights[i as usize] == switch;
+    let plus = fabric::landing(n, i, 1, fork) == switch;
+    let minus = fabric::landing(n, i, 2, fork) == switch;
+    with_stopped(stops, i, set_of(straight, plus, minus))
 }

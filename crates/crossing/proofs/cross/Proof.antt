@@ -1,12 +1,14 @@
 -- The frontier holds the first clear walks to its two switches, for whatever rule stops those links, and one of the two is
 -- reached.
 use mathlib.Core.Path.{_≡_, sym, ap, subst, _∙_}
-use Prim.Native.Nat.{ℕ, _+_, _-_, _*_, _≤_, _<_}
+use Prim.Native.Nat.{ℕ, _+_, _-_, _*_, _/_, _%_, _^_, _≤_, _<_}
+use native.Mathlib.Nat.{div-one}
 use native.Mathlib.Numerals.{add-one}
 use native.Mathlib.Omega.{arith}
 use borrow.Author.Tests.{not-true, not-false}
 use borrow.Author.Needs.{needs}
 use lib.Dec.{eqb}
+use lib.Pow.{shr-shr}
 use Rattle.fabric.specs.Labels.{size}
 use Rattle.frontier.proofs.Places.{few-labels, start-reached, advanced-small, small-fits}
 use Rattle.paths.specs.Clear.{Rule}
@@ -15,27 +17,28 @@ use Rattle.frontier.specs.declared.Front.{Front}
 use Rattle.frontier.specs.declared.Stops.{Stops}
 use Rattle.frontier.specs.Stops.{StopsUnder}
 use Rattle.frontier.specs.Frontier.{Small, lesser}
-use Rattle.frontier.proofs.Apart.{right-where}
+use Rattle.frontier.proofs.HighSwitch.{right-where}
 use Rattle.crossing.proofs.Routing.{front-on, none-ahead, found-ahead}
 use Rattle.crossing.proofs.cross.Statement.{statement}
 use Rattle.crossing.proofs.cross.Tie as tie
 
--- the frontier in column i
-record InColumn (n s d : ℕ) (stops : Stops) (i : ℕ) (front : Front) : Type 0 where
+-- the frontier in column i, and the sets of the stages from there on
+record InColumn (n s d : ℕ) (stops : Stops) (i : ℕ) (front : Front) (sets : ℕ) : Type 0 where
   within : i ≤ n
+  onward : sets ≡ stops .sets / 2 ^ (4 * i)
   high-fits : Small i (front .high)
   low-fits : Small i (front .low)
   reached : lesser (front .high) (front .low) < size n
   holds : (rule : Rule) → StopsUnder n rule s d stops → Holds n rule s d i front
 
 abbrev Inv-loop : tie.InvT-loop
-Inv-loop n source destination stops apart front₀ i₀ front i = InColumn n source destination stops i front
+Inv-loop n source destination distance front₀ sets₀ i₀ front sets i = InColumn n source destination (record { sets = sets₀ }) i front sets
 
 abbrev μ-loop : tie.MeasureT-loop
-μ-loop n source destination stops apart front₀ i₀ front i = n - i
+μ-loop n source destination distance front₀ sets₀ i₀ front sets i = n - i
 
-wrapping-sub-u16-requires : tie.Need-wrapping-sub-u16-requires Inv-loop μ-loop
-wrapping-sub-u16-requires c κs = search needs
+distance-requires : tie.Need-distance-requires Inv-loop μ-loop
+distance-requires c κs = search needs
 
 at-source-requires : tie.Need-at-source-requires Inv-loop μ-loop
 at-source-requires c κs = search needs
@@ -47,6 +50,7 @@ loop-holds c =
     let few = few-labels (a .n) (search needs) in
     record {
       within = search needs;
+      onward = sym (div-one (a .stops .sets));
       high-fits = rw e (omega arith);
       low-fits = rw e (omega arith);
       reached = rw e (start-reached (a .n));
@@ -59,11 +63,14 @@ bit-of-requires c κs = search needs
 bit-of-requires-2 : tie.Need-bit-of-requires-2 Inv-loop μ-loop
 bit-of-requires-2 c κs = search needs
 
+cast-advance : tie.Need-cast-advance Inv-loop μ-loop
+cast-advance c = search needs
+
 advance-requires : tie.Need-advance-requires Inv-loop μ-loop
 advance-requires c κs =
     let v = c .before .before .before .loop in
     let h : v .i < 12 = search needs in
-    (search needs, h, search needs, small-fits (v .i) (v .front .high) h (v .inv .high-fits), small-fits (v .i) (v .front .low) h (v .inv .low-fits))
+    (search needs, search needs, small-fits (v .i) (v .front .high) h (v .inv .high-fits), small-fits (v .i) (v .front .low) h (v .inv .low-fits))
 
 reached-requires : tie.Need-reached-requires Inv-loop μ-loop
 reached-requires c κs = search needs
@@ -74,10 +81,10 @@ returns c = λ rule under.
     let v = c .before .before .before .before .before .before .loop in
     let w = v .inv in
     let right =
-    right-where (a .n) (a .source) (a .destination) _ (search needs) (search needs) (c .before .before .before .before .before .before .before .before .wrapping-sub-u16 .ensures) (v .i) (omega arith)
+    right-where (a .n) (a .source) (a .destination) _ (search needs) (search needs) (c .before .before .before .before .before .before .before .before .distance .ensures) (v .i) (omega arith)
     ∙ ap (λ (b : ℕ). eqb b 0) (sym (c .before .before .before .bit-of2 .ensures .0)) in
     let held = w .holds rule under in
-    let next = front-on (a .n) rule (a .source) (a .destination) (search needs) (a .stops) under (v .i) _ _ (omega arith) right (c .before .before .before .before .bit-of .ensures .0) (v .front) _ (c .before .before .advance .ensures) held in
+    let next = front-on (a .n) rule (a .source) (a .destination) (search needs) (a .stops) under (v .i) _ _ _ (omega arith) right (c .before .before .before .before .bit-of .ensures .0) (ap (λ (x : ℕ). x % 16) (w .onward)) (v .front) _ (c .before .before .advance .ensures) held in
     none-ahead (a .n) rule (a .source) (a .destination) (search needs) (v .i) (omega arith) (v .front) _ held (w .reached) next (c .before .reached .ensures .1 (not-true _ (c .if1 .taken)))
 
 add-i : tie.Need-add-i Inv-loop μ-loop
@@ -92,18 +99,19 @@ loop-again c =
     let v = c .before .before .before .before .before .before .loop in
     let w = v .inv in
     let right =
-    right-where (a .n) (a .source) (a .destination) _ (search needs) (search needs) (c .before .before .before .before .before .before .before .before .wrapping-sub-u16 .ensures) (v .i) (omega arith)
+    right-where (a .n) (a .source) (a .destination) _ (search needs) (search needs) (c .before .before .before .before .before .before .before .before .distance .ensures) (v .i) (omega arith)
     ∙ ap (λ (b : ℕ). eqb b 0) (sym (c .before .before .before .bit-of2 .ensures .0)) in
     let more = add-one (v .i) in
     let e = c .before .before .advance .ensures in
     let small = advanced-small (a .n) (v .i) (search needs) _ (c .before .before .before .before .bit-of .result) _ (v .front) (search needs) (w .high-fits) (w .low-fits) in
     record {
       within = omega arith;
+      onward = ap (λ (x : ℕ). x / 16) (w .onward) ∙ shr-shr (a .stops .sets) (4 * v .i) 4 ∙ ap (λ (k : ℕ). a .stops .sets / 2 ^ k) {x = 4 * v .i + 4} {y = 4 * (v .i + 1)} (omega arith);
       high-fits = rw (more, e) (small .0);
       low-fits = rw (more, e) (small .1);
       reached = c .before .reached .ensures .0 (not-false _ (c .if1 .left));
       holds = λ rule under.
-          front-on (a .n) rule (a .source) (a .destination) (search needs) (a .stops) under (v .i) _ _ (omega arith) right (c .before .before .before .before .bit-of .ensures .0) (v .front) _ e (w .holds rule under);
+          front-on (a .n) rule (a .source) (a .destination) (search needs) (a .stops) under (v .i) _ _ _ (omega arith) right (c .before .before .before .before .bit-of .ensures .0) (ap (λ (x : ℕ). x % 16) (w .onward)) (v .front) _ e (w .holds rule under);
     }
 
 first-states-requires : tie.Need-first-states-requires Inv-loop μ-loop
@@ -125,11 +133,12 @@ cross-spec =
     (tie.spec
     Inv-loop
     μ-loop
-    wrapping-sub-u16-requires
+    distance-requires
     at-source-requires
     loop-holds
     bit-of-requires
     bit-of-requires-2
+    cast-advance
     advance-requires
     reached-requires
     returns

@@ -10,14 +10,14 @@ chosen-requires c κs = search needs
 chosen-requires-2 : tie.Need-chosen-requires-2
 chosen-requires-2 c κs = search needs
 
-stopped-requires : tie.Need-stopped-requires
-stopped-requires c κs = search needs
+in-set-requires : tie.Need-in-set-requires
+in-set-requires c κs = search needs
 
 by-link-requires : tie.Need-by-link-requires
 by-link-requires c κs = search (needs, chosen-below)
 
-stopped-requires-2 : tie.Need-stopped-requires-2
-stopped-requires-2 c κs = search needs
+in-set-requires-2 : tie.Need-in-set-requires-2
+in-set-requires-2 c κs = search needs
 
 sub-by-link : tie.Need-sub-by-link
 sub-by-link c = search needs
@@ -25,8 +25,8 @@ sub-by-link c = search needs
 by-link-requires-2 : tie.Need-by-link-requires-2
 by-link-requires-2 c κs = search (needs, chosen-below)
 
-stopped-requires-3 : tie.Need-stopped-requires-3
-stopped-requires-3 c κs = search needs
+in-set-requires-3 : tie.Need-in-set-requires-3
+in-set-requires-3 c κs = search needs
 
 by-link-requires-3 : tie.Need-by-link-requires-3
 by-link-requires-3 c κs = search (needs, chosen-below)
@@ -52,12 +52,12 @@ advance-spec =
     (tie.spec
     chosen-requires
     chosen-requires-2
-    stopped-requires
+    in-set-requires
     by-link-requires
-    stopped-requires-2
+    in-set-requires-2
     sub-by-link
     by-link-requires-2
-    stopped-requires-3
+    in-set-requires-3
     by-link-requires-3
     chosen-requires-3
     first-of-requires

@@ -128,7 +128,7 @@ returns-3 c =
     let of = c .before .before .before .before .before .before .columns-between in
     let e = none-left-of (b .count) (b .notices) (v .k) (w .places) (omega arith) in
     let told = subst (λ (l : List Notice). Told (b .n) (of .result .straight) (of .result .fork) (standing b) l (v .stops)) e (w .told) in
-    let under = told-all (b .n) _ _ (standing b) (v .stops) told (s .args .source) (s .args .destination) (s .pre .filed) (of .ensures .straight) (of .ensures .fork) in
+    let under = told-all (b .n) _ _ (standing b) (v .stops) told (s .args .source) (s .args .destination) (s .pre .filed) (λ i h. of .ensures .straight i (omega arith)) (λ i h. of .ensures .fork i (omega arith)) in
     found-route b (s .args .source) (s .args .destination) (s .pre) (w .source-label) (w .destination-label) _ (c .cross .ensures (stopsOf b) under)
 
 pub routed-spec : {M : Type 1} → statement M

@@ -28,8 +28,8 @@ returns c =
     let a = c .before .before .before .args in
     let step = c .before .before .size in
     ap₂ (λ (w q : ℕ). w % q) (c .before .wrapping-add-u16 .ensures) (c .size2 .ensures)
-    ∙ low-of-low (a .n) 16 (a .source + a .apart % step .result) (omega arith)
-    ∙ ap (λ (p : ℕ). (a .source + a .apart % p) % 2 ^ a .n) (step .ensures)
+    ∙ low-of-low (a .n) 16 (a .source + a .distance % step .result) (omega arith)
+    ∙ ap (λ (p : ℕ). (a .source + a .distance % p) % 2 ^ a .n) (step .ensures)
 
 pub above-spec : {M : Type 1} → statement M
 above-spec =

@@ -1,27 +1,28 @@
 -- The high switch of a column without those before it: it lies above the source by what the distance has in its low bits, and
 -- its bit is right exactly where the distance has no bit.
-use mathlib.Core.Path.{_≡_, sym, ap, ap₂, _∙_}
-use mathlib.Core.Bool.{Bool, true, false, cond}
+use mathlib.Core.Path.{_≡_, refl, sym, ap, ap₂, _∙_}
+use mathlib.Core.Bool.{Bool, true, false, cond, not}
 use Prim.Native.Nat.{ℕ, zero, suc, _+_, _-_, _*_, _%_, _^_, _≤_, _<_}
-use native.Mathlib.Nat.{mod-eq-of-lt, mod-add-mod, add-mod-mod}
-use native.Mathlib.Decide.{ℕ-discrete}
+use native.Mathlib.Nat.{mod-lt, mod-eq-of-lt, mod-add-mod, add-mod-mod}
+use native.Mathlib.Decide.{ℕ-discrete, decLt}
 use native.Mathlib.Omega.{arith}
 use borrow.Author.Tests.{eq-eqb, ne-eqb}
 use lib.Dec.{eqb}
+use lib.Pow.{pow-pos}
 use Rattle.fabric.specs.Labels.{size, bit, Agree}
 use Rattle.fabric.specs.Links.{lands}
 use Rattle.fabric.proofs.Bits.{bit-lt, low-of-low, low-more, agree-bit}
 use Rattle.fabric.proofs.Links.{nonstraight-bit}
-use Rattle.frontier.specs.Columns.{high, highRight, straightAt, forkAt}
-use Rattle.frontier.proofs.Pivots.{high-straight, high-plus}
+use Rattle.frontier.specs.Columns.{Distance, high, low, highRight, straightAt, forkAt}
+use Rattle.frontier.proofs.Pivots.{high-lt, high-straight, high-plus}
 
-module _ (n s d a : ℕ) (few : n ≤ 12) (source : s < size n) (apart : (a + s) % 65536 ≡ d) where
+module _ (n s d a : ℕ) (few : n ≤ 12) (source : s < size n) (distance : Distance s d a) where
   abbrev pub above : ℕ → ℕ
   above i = (s + a % 2 ^ i) % 2 ^ n
 
   above-agrees : (i : ℕ) → i ≤ n → Agree i (above i) d
   above-agrees i h =
-      let e : (s + a) % 2 ^ 16 ≡ d = ap (λ (x : ℕ). x % 65536) {x = s + a} {y = a + s} (omega arith) ∙ apart in
+      let e : (s + a) % 2 ^ 16 ≡ d = ap (λ (x : ℕ). x % 65536) {x = s + a} {y = a + s} (omega arith) ∙ distance in
       low-of-low i n (s + a % 2 ^ i) h ∙ add-mod-mod s a (2 ^ i) ∙ sym (low-of-low i 16 (s + a) (omega arith)) ∙ ap (λ (x : ℕ). x % 2 ^ i) e
 
   above-same : (i : ℕ) → bit i a ≡ 0 → above (suc i) ≡ above i
@@ -63,9 +64,30 @@ module _ (n s d a : ℕ) (few : n ≤ 12) (source : s < size n) (apart : (a + s)
   pub right-where : (i : ℕ) → i < n → highRight n s d i ≡ eqb (bit i a) 0
   right-where i h = rises i h (high-above i (omega arith)) .1
 
-  -- the switch that goes straight, and the one that forks
-  pub straight-where : (i : ℕ) → i < n → straightAt n s d i ≡ cond (eqb (bit i a) 0) (above i) (lands n i 2 (above i))
-  straight-where i h = ap₂ (λ (b : Bool) (x : ℕ). cond b x (lands n i 2 x)) (right-where i h) (high-above i (omega arith))
+  -- in the last column the two are one
+  one-last : (x : ℕ) → x < size n → (b : Bool) → cond b x (lands n n 2 x) ≡ x
+  one-last x h true = refl
+  one-last x h false = ap (λ (y : ℕ). y % size n) {x = x + (size n - 2 ^ n)} {y = x} (omega arith) ∙ mod-eq-of-lt h
 
-  pub fork-where : (i : ℕ) → i < n → forkAt n s d i ≡ cond (eqb (bit i a) 0) (lands n i 2 (above i)) (above i)
-  fork-where i h = ap₂ (λ (b : Bool) (x : ℕ). cond b (lands n i 2 x) x) (right-where i h) (high-above i (omega arith))
+  last-same : (i : ℕ) → i ≡ n → (b c : Bool) → cond b (high n s d i) (low n s d i) ≡ cond c (above i) (lands n i 2 (above i))
+  last-same i e b c =
+      rw e (one-last (high n s d n) (high-lt n s d source n) b ∙ high-above n (omega arith) ∙ sym (one-last (above n) (mod-lt _ (pow-pos n)) c))
+
+  -- the switch that goes straight, and the one that forks
+  pub straight-where : (i : ℕ) → i ≤ n → straightAt n s d i ≡ cond (eqb (bit i a) 0) (above i) (lands n i 2 (above i))
+  straight-where i h = go (decLt i n)
+    where
+      go : Dec (i < n) → straightAt n s d i ≡ cond (eqb (bit i a) 0) (above i) (lands n i 2 (above i))
+      go (yes l) = ap₂ (λ (b : Bool) (x : ℕ). cond b x (lands n i 2 x)) (right-where i l) (high-above i (omega arith))
+      go (no l) = last-same i (omega arith) (highRight n s d i) (eqb (bit i a) 0)
+
+  pub fork-where : (i : ℕ) → i ≤ n → forkAt n s d i ≡ cond (not (eqb (bit i a) 0)) (above i) (lands n i 2 (above i))
+  fork-where i h = sym (turned (highRight n s d i)) ∙ go (decLt i n)
+    where
+      turned : (b : Bool) → cond (not b) (high n s d i) (low n s d i) ≡ cond b (low n s d i) (high n s d i)
+      turned true = refl
+      turned false = refl
+
+      go : Dec (i < n) → cond (not (highRight n s d i)) (high n s d i) (low n s d i) ≡ cond (not (eqb (bit i a) 0)) (above i) (lands n i 2 (above i))
+      go (yes l) = ap₂ (λ (b : Bool) (x : ℕ). cond (not b) x (lands n i 2 x)) (right-where i l) (high-above i (omega arith))
+      go (no l) = last-same i (omega arith) (not (highRight n s d i)) (not (eqb (bit i a) 0))
