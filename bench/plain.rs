@@ -45,14 +45,14 @@ struct Columns {
 
 impl Columns {
     #[inline(always)]
-    fn new(n: u32, source: u16, apart: u16) -> Columns {
+    fn new(n: u32, source: u16, distance: u16) -> Columns {
         let all = ((1u32 << n) - 1) as u16;
         let mut columns = Columns { straight: [0; 16], fork: [0; 16] };
         for i in 0..16 {
-            let near = source.wrapping_add(apart & ((1 << i) - 1));
-            let bit = apart & (1 << i);
-            columns.straight[i] = near.wrapping_sub(bit) & all;
-            columns.fork[i] = near.wrapping_add(bit).wrapping_sub(1 << i) & all;
+            let high = source.wrapping_add(distance & ((1 << i) - 1));
+            let bit = distance & (1 << i);
+            columns.straight[i] = high.wrapping_sub(bit) & all;
+            columns.fork[i] = high.wrapping_add(bit).wrapping_sub(1 << i) & all;
         }
         columns
     }
@@ -109,20 +109,20 @@ fn lost(set: u64, bit: u32) -> u32 {
 }
 
 pub fn route(n: u32, notices: &[Target], source: u32, destination: u32) -> Answer {
-    let mut apart = destination.wrapping_sub(source);
-    let Marks { straight: mut right, fork: mut wrong } = Marks::new(notices, &Columns::new(n, source as u16, apart as u16));
-    let (mut straight, mut fork) = if apart & 1 == 0 { (0, LOST) } else { (LOST, 0) };
+    let mut distance = destination.wrapping_sub(source);
+    let Marks { straight: mut right, fork: mut wrong } = Marks::new(notices, &Columns::new(n, source as u16, distance as u16));
+    let (mut straight, mut fork) = if distance & 1 == 0 { (0, LOST) } else { (LOST, 0) };
     let mut digits = destination;
     let mut crossed = 0;
     for _ in 0..n {
         // One of plus and minus leads from the fork to where the other switch's straight link leads, the other one away.
-        let (near, far) = if apart & 1 == 0 { (lost(wrong, 1), lost(wrong, 2)) } else { (lost(wrong, 2), lost(wrong, 1)) };
-        let state = (digits ^ apart) & 1;
+        let (near, far) = if distance & 1 == 0 { (lost(wrong, 1), lost(wrong, 2)) } else { (lost(wrong, 2), lost(wrong, 1)) };
+        let state = (digits ^ distance) & 1;
         let met = (straight * 2 + lost(right, 0)).min(fork * 2 + (state ^ 1) + near);
         let away = fork * 2 + state + far;
         // which of the next column's two switches they lead to
-        let turned = ((apart ^ apart >> 1) & 1).wrapping_neg() & (met ^ away);
-        apart >>= 1;
+        let turned = ((distance ^ distance >> 1) & 1).wrapping_neg() & (met ^ away);
+        distance >>= 1;
         digits >>= 1;
         right >>= 4;
         wrong >>= 4;
