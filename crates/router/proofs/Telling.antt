@@ -24,7 +24,8 @@ use Rattle.standing.specs.Picked.{some}
 use Rattle.standing.specs.Rising.{Filed}
 use Rattle.standing.proofs.Lowest.{lowest-tells}
 use Rattle.book.specs.Standing.{stopper}
-use Rattle.router.specs.Named.{outOf, Ways, WithTarget, named, Told}
+use Rattle.named_links.specs.Named.{outOf, Ways, WithTarget}
+use Rattle.router.specs.Told.{named, Told}
 
 -- filing accepts the first notice of a list in order
 pub head-fit : (n k : ℕ) (x : Notice) (xs : List Notice) → Filed (unfit n) k (x ∷ xs) → unfit n x ≡ false

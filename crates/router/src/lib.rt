@@ -1,13 +1,11 @@
 // Document 01, 'route': the first clear path over the links that a book stops, or the stage that no clear walk can cross.
 use book::Book;
 use crossing::cross;
-use named::with_notice;
+use named_links::with_notice;
 use routes::Found;
 use table::Refusal;
 ghost use Rattle.book.specs.Standing.{Sound};
 ghost use Rattle.routes.specs.Routed.{Routes};
-
-mod named; // named.rt: the links on ways that a notice names
 
 // "route: 16, 10, 11."
 pub fn route(book: Book, source: u16, destination: u16) -> Found

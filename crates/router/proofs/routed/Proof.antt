@@ -16,7 +16,7 @@ use Rattle.standing.specs.Rising.{Filed, filler}
 use Rattle.places.proofs.Arrays.{length-mapped, next-of, none-left-of}
 use Rattle.book.specs.declared.Book.{Book}
 use Rattle.book.specs.Standing.{standing, stopsOf}
-use Rattle.router.specs.Named.{Told}
+use Rattle.router.specs.Told.{Told}
 use Rattle.router.proofs.Passing.{refused-label, found-route}
 use Rattle.router.proofs.Telling.{head-fit, ways-of, told-none, told-more, told-all}
 use Rattle.router.proofs.routed.Statement.{statement}

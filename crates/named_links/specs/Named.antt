@@ -1,4 +1,5 @@
--- The router's own bookkeeping: the links on ways that a notice names. Nobody has to believe it; `Routes` is what it leads to.
+-- What a router that goes through notices says of them: the links on ways that a notice names. Nobody has to believe it; `Routes` is what it leads
+-- to.
 use mathlib.Core.Path.{_≡_}
 use mathlib.Core.Bool.{Bool, cond, _&&_, _||_}
 use mathlib.Core.List.{List}
@@ -10,12 +11,8 @@ use Rattle.fabric.specs.Labels.{size}
 use Rattle.fabric.specs.Links.{lands}
 use Rattle.frontier.specs.declared.Stops.{Stops}
 use Rattle.frontier.specs.Stops.{has, setAt}
-use Rattle.notices.specs.declared.Notice.{Notice}
 use Rattle.notices.specs.declared.Target.{Target}
 use Rattle.notices.specs.Targets.{setHas, targetNames}
-use Rattle.notices.specs.Notices.{names, unfit}
-use Rattle.standing.specs.Picked.{some}
-use Rattle.standing.specs.Rising.{Filed}
 
 -- the switch whose link of a code lies on ways: straight from the one, plus and minus from the one that forks
 abbrev pub outOf : List ℕ → List ℕ → ℕ → ℕ → ℕ
@@ -39,14 +36,3 @@ WithSet k straight fork set old new =
 abbrev pub WithInputs : ℕ → List ℕ → List ℕ → ℕ → ℕ → Stops → Stops → Type 0
 WithInputs n straights forks k switch old new =
     (i c : ℕ) → c < 3 → has (setAt i new) c ≡ (has (setAt i old) c || (eqb i k && eqb (lands n k c (outOf straights forks k c)) switch))
-
--- whether some notice of a list names a link
-abbrev pub named : ℕ → List Notice → ℕ → ℕ → ℕ → Bool
-named n l i j c = some (λ x. names n x i j c) l
-
--- What is stopped on the way through a list, and what the rest of it still names: together what all of it names. The rest is in
--- order, so that filing accepts each of its notices.
-pub record Told (n : ℕ) (straights forks : List ℕ) (all rest : List Notice) (w : Stops) : Type 0 where
-  pub filed : (k : ℕ) × Filed (unfit n) k rest
-  pub all-named : (i c : ℕ) → i < n → c < 3
-      → (has (setAt i w) c || named n rest i (outOf straights forks i c) c) ≡ named n all i (outOf straights forks i c) c

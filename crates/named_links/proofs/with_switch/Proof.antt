@@ -2,9 +2,9 @@
 -- column's two.
 use mathlib.Core.Path.{sym, _∙_}
 use borrow.Author.Needs.{needs}
-use Rattle.router.proofs.Naming.{column-0-none, switch-more, switch-none}
-use Rattle.router.proofs.named.with_switch.Statement.{statement}
-use Rattle.router.proofs.named.with_switch.Tie as tie
+use Rattle.named_links.proofs.Naming.{column-0-none, switch-more, switch-none}
+use Rattle.named_links.proofs.with_switch.Statement.{statement}
+use Rattle.named_links.proofs.with_switch.Tie as tie
 
 returns : tie.Need-returns
 returns c =

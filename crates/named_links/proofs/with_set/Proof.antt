@@ -8,8 +8,8 @@ use lib.Dec.{eqb}
 use lib.Bits.{and-le-l}
 use Rattle.frontier.specs.Stops.{has, setAt}
 use Rattle.frontier.proofs.Sets.{has-and, set-has}
-use Rattle.router.proofs.named.with_set.Statement.{statement}
-use Rattle.router.proofs.named.with_set.Tie as tie
+use Rattle.named_links.proofs.with_set.Statement.{statement}
+use Rattle.named_links.proofs.with_set.Tie as tie
 
 set-of-requires : tie.Need-set-of-requires
 set-of-requires c κs = search needs

@@ -2,8 +2,8 @@
 use native.Mathlib.Omega.{arith}
 use borrow.Author.Needs.{needs}
 use Rattle.notices.proofs.Fit.{links-fit, switch-fit, pattern-fit}
-use Rattle.router.proofs.named.with_notice.Statement.{statement}
-use Rattle.router.proofs.named.with_notice.Tie as tie
+use Rattle.named_links.proofs.with_notice.Statement.{statement}
+use Rattle.named_links.proofs.with_notice.Tie as tie
 
 enum-known-t : tie.Need-enum-known-t
 enum-known-t c = search needs

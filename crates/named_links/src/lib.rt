@@ -11,7 +11,7 @@ ghost use mathlib.Core.Bool.{false};
 ghost use Prim.Native.Nat.{ℕ, _≤_, _<_};
 ghost use Rattle.notices.specs.declared.Target.the-variants.{Links, Switch, Pattern};
 ghost use Rattle.notices.specs.Notices.{unfit};
-ghost use Rattle.router.specs.Named.{Ways, WithTarget, WithSet, WithInputs};
+ghost use Rattle.named_links.specs.Named.{Ways, WithTarget, WithSet, WithInputs};
 
 // What is stopped, with the links more that a notice names.
 pub fn with_notice(

@@ -7,9 +7,9 @@ use lib.Dec.{eqb}
 use Rattle.fabric.specs.Links.{lands}
 use Rattle.frontier.specs.Stops.{has, setOf, setAt}
 use Rattle.frontier.proofs.Sets.{set-has}
-use Rattle.router.specs.Named.{outOf}
-use Rattle.router.proofs.named.with_inputs.Statement.{statement}
-use Rattle.router.proofs.named.with_inputs.Tie as tie
+use Rattle.named_links.specs.Named.{outOf}
+use Rattle.named_links.proofs.with_inputs.Statement.{statement}
+use Rattle.named_links.proofs.with_inputs.Tie as tie
 
 mul-fork : tie.Need-mul-fork
 mul-fork c = search needs

@@ -1,8 +1,8 @@
 -- What a pattern names of its stage.
 use borrow.Author.Needs.{needs}
-use Rattle.router.proofs.Naming.{pattern-more}
-use Rattle.router.proofs.named.with_pattern.Statement.{statement}
-use Rattle.router.proofs.named.with_pattern.Tie as tie
+use Rattle.named_links.proofs.Naming.{pattern-more}
+use Rattle.named_links.proofs.with_pattern.Statement.{statement}
+use Rattle.named_links.proofs.with_pattern.Tie as tie
 
 mul-straight : tie.Need-mul-straight
 mul-straight c = search needs

@@ -16,7 +16,7 @@ use Rattle.frontier.specs.declared.Stops.{Stops}
 use Rattle.frontier.specs.Stops.{has, setAt}
 use Rattle.notices.specs.declared.Target.the-variants.{Links, Switch, Pattern}
 use Rattle.notices.specs.Targets.{setHas}
-use Rattle.router.specs.Named.{outOf, Ways, WithTarget, WithSet, WithInputs}
+use Rattle.named_links.specs.Named.{outOf, Ways, WithTarget, WithSet, WithInputs}
 
 nothing-more : (b : Bool) {more : Bool} → more ≡ false → b ≡ (b || more)
 nothing-more true e = refl

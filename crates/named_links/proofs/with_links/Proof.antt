@@ -1,9 +1,9 @@
 -- A notice of another switch than the two names none of their links.
 use mathlib.Core.Path.{sym, _∙_}
 use borrow.Author.Needs.{needs}
-use Rattle.router.proofs.Naming.{links-more, links-none}
-use Rattle.router.proofs.named.with_links.Statement.{statement}
-use Rattle.router.proofs.named.with_links.Tie as tie
+use Rattle.named_links.proofs.Naming.{links-more, links-none}
+use Rattle.named_links.proofs.with_links.Statement.{statement}
+use Rattle.named_links.proofs.with_links.Tie as tie
 
 mul-straight : tie.Need-mul-straight
 mul-straight c = search needs
