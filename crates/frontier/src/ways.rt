@@ -26,8 +26,8 @@ pub fn columns_between(n: u8, source: u16, destination: u16) -> Columns
         let high = above(n, i, source, distance);
         let low = below(n, i, high);
         let right = fabric::bit_of(i, distance) == 0;
-        straight[i as usize] = side(right, high, low);
-        fork[i as usize] = side(!right, high, low);
+        straight[i as usize] = chosen(right, high, low);
+        fork[i as usize] = chosen(!right, high, low);
         i += 1;
     }
     Columns { straight, fork }
@@ -49,9 +49,9 @@ fn below(n: u8, i: u8, high: u16) -> u16
     std::num::wrapping_sub_u16(high, fabric::size(i)) % fabric::size(n)
 }
 
-// The switch of the high side or of the low one.
-fn side(upper: bool, high: u16, low: u16) -> u16
-    ensures { λ r. ⌜ r ≡ cond upper high low ⌝ }
+// As `chosen` of the frontier, for labels.
+fn chosen(first: bool, p: u16, q: u16) -> u16
+    ensures { λ r. ⌜ r ≡ cond first p q ⌝ }
 {
-    if upper { high } else { low }
+    if first { p } else { q }
 }

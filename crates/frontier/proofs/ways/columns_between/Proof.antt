@@ -53,8 +53,8 @@ below-requires c κs = search needs
 bit-of-requires : tie.Need-bit-of-requires Inv-loop μ-loop
 bit-of-requires c κs = search needs
 
-side-requires : tie.Need-side-requires Inv-loop μ-loop
-side-requires c κs = search needs
+chosen-requires : tie.Need-chosen-requires Inv-loop μ-loop
+chosen-requires c κs = search needs
 
 cast-straight : tie.Need-cast-straight Inv-loop μ-loop
 cast-straight c = search needs
@@ -65,8 +65,8 @@ mul-straight c = search needs
 array-write-straight : tie.Need-array-write-straight Inv-loop μ-loop
 array-write-straight c = search needs
 
-side-requires-2 : tie.Need-side-requires-2 Inv-loop μ-loop
-side-requires-2 c κs = search needs
+chosen-requires-2 : tie.Need-chosen-requires-2 Inv-loop μ-loop
+chosen-requires-2 c κs = search needs
 
 cast-fork : tie.Need-cast-fork Inv-loop μ-loop
 cast-fork c = search needs
@@ -99,11 +99,11 @@ loop-again c =
       straight-at =
           filled-more (λ k x. k ≤ a .n → x ≡ cond (eqb (bit k distance) 0) (above (a .n) (a .source) distance k) (lands (a .n) k 2 (above (a .n) (a .source) distance k)))
           (v .straight) (v .i) _ (omega arith) (w .straight-at)
-          (λ h. c .before .side .ensures ∙ rw (low h, high, right));
+          (λ h. c .before .chosen .ensures ∙ rw (low h, high, right));
       fork-at =
           filled-more (λ k x. k ≤ a .n → x ≡ cond (not (eqb (bit k distance) 0)) (above (a .n) (a .source) distance k) (lands (a .n) k 2 (above (a .n) (a .source) distance k)))
           (v .fork) (v .i) _ (omega arith) (w .fork-at)
-          (λ h. c .side2 .ensures ∙ rw (low h, high, right));
+          (λ h. c .chosen2 .ensures ∙ rw (low h, high, right));
     }
 
 returns : tie.Need-returns Inv-loop μ-loop
@@ -127,11 +127,11 @@ columns-between-spec =
     above-requires
     below-requires
     bit-of-requires
-    side-requires
+    chosen-requires
     cast-straight
     mul-straight
     array-write-straight
-    side-requires-2
+    chosen-requires-2
     cast-fork
     mul-fork
     array-write-fork
