@@ -4,11 +4,8 @@ use mathlib.Core.Bool.{true, false, true≢false}
 use Prim.Native.Nat.{ℕ, _≤_, _<_}
 use native.Mathlib.Omega.{arith}
 use borrow.Author.Tests.{ltb-true}
-use lib.Dec.{T}
-use lib.IntN.{ℤ, pos, negsuc, natAbs}
-use lib.Signed.{ltZ, nonNeg}
-use mir.Syntax.{w32, w64}
-use mir.Val.{Fits, SFits}
+use lib.IntN.{ℤ, pos, negsuc}
+use lib.Signed.{ltZ}
 use Rattle.input.specs.declared.Input.{Input}
 use Rattle.input.specs.Answers.{Within}
 use Rattle.desk.specs.Reads.{inputAt}
@@ -28,8 +25,3 @@ bytes-from-zero bytes (negsuc k) e = absurd (true≢false e)
 pub within-at : {room : ℕ} {r : Input} (bytes : ℕ) (got : ℤ) → r ≡ inputAt bytes got → bytes ≤ room → Within room r
 within-at bytes (pos k) e h = rw e h
 within-at bytes (negsuc k) e h = rw e tt
-
--- a number from zero on keeps its value as one without a sign
-pub from-zero-fits : (z : ℤ) → SFits w32 z → ltZ z (pos 0) ≡ false → T (nonNeg z) × Fits w64 (natAbs z)
-from-zero-fits (pos k) f e = (tt, record { fits = let g = f .sfits in omega arith })
-from-zero-fits (negsuc k) f e = absurd (true≢false e)

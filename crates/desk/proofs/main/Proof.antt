@@ -1,67 +1,63 @@
 -- The memory has room for the longest sheet and one byte more, and the lines for the longest text.
-use native.Mathlib.Omega.{arith}
+use mathlib.Core.Path.{refl}
+use mathlib.Core.List.{List}
+use Prim.Native.Nat.{ℕ}
 use borrow.Author.Needs.{needs}
+use lib.ListN.{length}
+use mir.Syntax.{w64}
+use mir.Val.{toZ, ofZ}
+use Rattle.input.specs.declared.Input.{Input}
+use Rattle.input.specs.declared.Output.{Output}
+use Rattle.input.specs.Answers.{Answers}
 use Rattle.input.proofs.Promises.{text-within}
+use Rattle.streams.specs.Text.{TextWithin}
+use Rattle.desk.proofs.Signs.{within-at}
 use Rattle.desk.proofs.main.Statement.{statement}
 use Rattle.desk.proofs.main.Tie as tie
 
-slice-aggregate-read-input : tie.Need-slice-aggregate-read-input
-slice-aggregate-read-input c = search needs
+written-within : {memory before after : List ℕ} {read : Input} (answer : Output) → Answers memory read before answer after → TextWithin (length after) answer
+written-within (Output.Text bytes) w = text-within w refl
+written-within Output.Unread w = tt
 
-read-input-requires : tie.Need-read-input-requires
-read-input-requires c κs = search needs
+slice-aggregate-read : tie.Need-slice-aggregate-read
+slice-aggregate-read c = search needs
+
+read-requires : tie.Need-read-requires
+read-requires c κs = search needs
 
 slice-aggregate-run : tie.Need-slice-aggregate-run
 slice-aggregate-run c = search needs
+
+input-at-requires : tie.Need-input-at-requires
+input-at-requires c κs = search needs
 
 slice-aggregate-run-2 : tie.Need-slice-aggregate-run-2
 slice-aggregate-run-2 c = search needs
 
 run-requires : tie.Need-run-requires
-run-requires c κs = (search needs, search needs, c .before .before .before .read-input .ensures)
+run-requires c κs =
+    let read = c .before .before .before .before .before .read in
+    (search needs, search needs, within-at (read .result .bytes) (toZ w64 (ofZ w64 (read .result .answer))) (c .before .input-at .ensures) (read .ensures))
 
-enum-known-bytes : tie.Need-enum-known-bytes
-enum-known-bytes c = search needs
+slice-aggregate-write : tie.Need-slice-aggregate-write
+slice-aggregate-write c = search needs
 
-slice-aggregate-print : tie.Need-slice-aggregate-print
-slice-aggregate-print c = search needs
-
-print-requires : tie.Need-print-requires
-print-requires c κs = text-within (c .before .before .before .before .before .run .ensures) (c .before .before .bytes .given .1)
-
-enum-told : tie.Need-enum-told
-enum-told c = search needs
-
-slice-aggregate-complain : tie.Need-slice-aggregate-complain
-slice-aggregate-complain c = search needs
-
-slice-aggregate-complain-2 : tie.Need-slice-aggregate-complain-2
-slice-aggregate-complain-2 c = search needs
-
-complain-requires : tie.Need-complain-requires
-complain-requires c κs = search needs
+write-requires : tie.Need-write-requires
+write-requires c κs = let run = c .before .before .run in written-within (run .result) (run .ensures)
 
 returns : tie.Need-returns
 returns c = search needs
-
-returns-2 : tie.Need-returns-2
-returns-2 c = search needs
 
 pub main-spec : {M : Type 1} → statement M
 main-spec =
     tie.close
     (tie.spec
-    slice-aggregate-read-input
-    read-input-requires
+    slice-aggregate-read
+    read-requires
     slice-aggregate-run
+    input-at-requires
     slice-aggregate-run-2
     run-requires
-    enum-known-bytes
-    slice-aggregate-print
-    print-requires
-    enum-told
-    slice-aggregate-complain
-    slice-aggregate-complain-2
-    complain-requires
-    returns
-    returns-2)
+    slice-aggregate-write
+    write-requires
+    returns)

@@ -3,11 +3,8 @@ use mathlib.Core.Path.{_≡_}
 use Prim.Native.Nat.{_≤_, _-_}
 use borrow.Author.Needs.{needs}
 use lib.ListN.{length}
-use mir.Syntax.{w64}
-use mir.Val.{toZ, ofZ}
-use Rattle.desk.proofs.Signs.{within-at}
-use Rattle.desk.proofs.read_input.Statement.{statement}
-use Rattle.desk.proofs.read_input.Tie as tie
+use Rattle.streams.proofs.read.Statement.{statement}
+use Rattle.streams.proofs.read.Tie as tie
 
 abbrev Inv-loop : tie.InvT-loop
 Inv-loop memory₀ bytes₀ memory bytes = (bytes ≤ length memory) × (length memory ≡ length memory₀)
@@ -42,17 +39,11 @@ part-count-end c = search needs
 count-requires : tie.Need-count-requires Inv-loop μ-loop
 count-requires c κs = search needs
 
-input-at-requires : tie.Need-input-at-requires Inv-loop μ-loop
-input-at-requires c κs = search needs
-
 same-length : tie.Need-same-length Inv-loop μ-loop
 same-length c = search needs
 
 returns : tie.Need-returns Inv-loop μ-loop
-returns c =
-    let v = c .before .before .before .before .before .before .before .before .before .before .loop in
-    let got = toZ w64 (ofZ w64 (c .before .before .before .before .before .before .before .read .result)) in
-    within-at (v .bytes) got (c .input-at .ensures) (search needs)
+returns c = search needs
 
 add-bytes : tie.Need-add-bytes Inv-loop μ-loop
 add-bytes c = search needs
@@ -69,8 +60,8 @@ same-length-2 c = search needs
 returns-2 : tie.Need-returns-2 Inv-loop μ-loop
 returns-2 c = search needs
 
-pub read-input-spec : {M : Type 1} → statement M
-read-input-spec =
+pub read-spec : {M : Type 1} → statement M
+read-spec =
     tie.close
     (tie.spec
     Inv-loop
@@ -84,7 +75,6 @@ read-input-spec =
     part-count-start
     part-count-end
     count-requires
-    input-at-requires
     same-length
     returns
     add-bytes
