@@ -29,7 +29,7 @@ pub fn unsound(book: Book) -> bool
     ensures { λ r. ⌜ (r ≡ unsound book) × (r ≡ false → Sound book) ⌝ }
 {
     let notices = book.notices;
-    places::damaged(book.n, notices, book.count)
+    damage::damaged(book.n, notices, book.count)
 }
 
 fn done(book: Book) -> Kept

@@ -10,7 +10,7 @@ use Rattle.notices.specs.declared.Notice.{Notice}
 use Rattle.standing.specs.Rising.{filler, inPlaces, stands, insert, without, Filed}
 use Rattle.standing.proofs.Members.{insert-length}
 use Rattle.places.specs.Places.{placeOf}
-use Rattle.places.proofs.Arrays.{opens-gap, closes-gap}
+use Rattle.places.proofs.Gaps.{opens-gap, closes-gap}
 use Rattle.places.proofs.Placing.{insertAt, removeAt, place-le, place-in-use, without-at, insert-at, without-shorter}
 
 module _ (count : ℕ) (notices : List Notice) (rest : drop count notices ≡ replicate (48 - count) filler) where

@@ -1,3 +1,3 @@
-pub mod Arrays
+pub mod Gaps
 pub mod Placing
 pub mod Keeping

@@ -3,3 +3,4 @@ pub mod Picked
 pub mod Filings
 pub mod Members
 pub mod Lowest
+pub mod Reading

@@ -14,7 +14,7 @@ use Rattle.book.specs.Standing.{standing}
 use Rattle.actions.specs.Rows.{rows}
 use Rattle.questions.specs.declared.Listing.{Listing}
 use Rattle.questions.specs.Entries.{listingSays, listingChecks}
-use Rattle.places.proofs.Arrays.{length-mapped}
+use Rattle.standing.proofs.Reading.{length-mapped}
 use Rattle.book.proofs.Filings.{sound-passes, length-standing}
 use Rattle.asked.proofs.listed.Statement.{statement}
 use Rattle.asked.proofs.listed.Tie as tie

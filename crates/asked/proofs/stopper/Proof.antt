@@ -7,7 +7,7 @@ use lib.ListN.{length, take, drop}
 use Rattle.standing.specs.Rising.{filler}
 use Rattle.standing.specs.Picked.{lowest}
 use Rattle.book.specs.Standing.{stopper}
-use Rattle.places.proofs.Arrays.{length-mapped, next-of, none-left-of}
+use Rattle.standing.proofs.Reading.{length-mapped, next-of, none-left-of}
 use Rattle.asked.proofs.stopper.Statement.{statement}
 use Rattle.asked.proofs.stopper.Tie as tie
 

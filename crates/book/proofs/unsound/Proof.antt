@@ -2,7 +2,7 @@
 use mathlib.Core.Path.{_≡_, sym, _∙_}
 use borrow.Author.Needs.{needs}
 use lib.ListN.{length}
-use Rattle.places.proofs.Arrays.{length-mapped}
+use Rattle.standing.proofs.Reading.{length-mapped}
 use Rattle.book.proofs.Filings.{sound-if}
 use Rattle.book.proofs.unsound.Statement.{statement}
 use Rattle.book.proofs.unsound.Tie as tie

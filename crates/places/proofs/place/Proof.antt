@@ -7,7 +7,7 @@ use borrow.Author.Needs.{needs}
 use lib.ListN.{length, take, drop}
 use Rattle.standing.specs.Rising.{filler}
 use Rattle.places.specs.Places.{placeOf}
-use Rattle.places.proofs.Arrays.{next-of, none-left-of}
+use Rattle.standing.proofs.Reading.{next-of, none-left-of}
 use Rattle.places.proofs.Placing.{place-in-use}
 use Rattle.places.proofs.place.Statement.{statement}
 use Rattle.places.proofs.place.Tie as tie

@@ -7,7 +7,7 @@ use borrow.Author.Needs.{needs}
 use lib.ListN.{length, take, drop}
 use Rattle.standing.specs.Picked.{some}
 use Rattle.standing.specs.Rising.{filler, stands}
-use Rattle.places.proofs.Arrays.{next-of, none-left-of}
+use Rattle.standing.proofs.Reading.{next-of, none-left-of}
 use Rattle.places.proofs.stands.Statement.{statement}
 use Rattle.places.proofs.stands.Tie as tie
 

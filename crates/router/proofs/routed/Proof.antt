@@ -13,7 +13,7 @@ use Rattle.frontier.specs.declared.Stops.{Stops}
 use Rattle.notices.specs.declared.Notice.{Notice}
 use Rattle.notices.specs.Notices.{unfit}
 use Rattle.standing.specs.Rising.{Filed, filler}
-use Rattle.places.proofs.Arrays.{length-mapped, next-of, none-left-of}
+use Rattle.standing.proofs.Reading.{length-mapped, next-of, none-left-of}
 use Rattle.book.specs.declared.Book.{Book}
 use Rattle.book.specs.Standing.{standing, stopsOf}
 use Rattle.router.specs.Told.{Told}

@@ -7,7 +7,7 @@ use lib.ListN.{length}
 use Rattle.table.proofs.Checks.{refusing, accepting}
 use Rattle.book.proofs.Filings.{sound-passes}
 use Rattle.book.proofs.Answers.{hands-back-done-as, hands-back-refused, full, not-full}
-use Rattle.places.proofs.Arrays.{length-mapped}
+use Rattle.standing.proofs.Reading.{length-mapped}
 use Rattle.book.proofs.Book.filed.Statement.{statement}
 use Rattle.book.proofs.Book.filed.Tie as tie
 

@@ -2,7 +2,7 @@
 use mathlib.Core.Path.{_≡_}
 use borrow.Author.Needs.{needs}
 use lib.ListN.{length}
-use Rattle.places.proofs.Arrays.{length-mapped}
+use Rattle.standing.proofs.Reading.{length-mapped}
 use Rattle.book.proofs.Placing.{book-inserts}
 use Rattle.book.proofs.held.inserted.Statement.{statement}
 use Rattle.book.proofs.held.inserted.Tie as tie

@@ -1,7 +1,7 @@
 -- Number 0 and the first target, all zero.
 use borrow.Author.Needs.{needs}
-use Rattle.places.proofs.is_filler.Statement.{statement}
-use Rattle.places.proofs.is_filler.Tie as tie
+use Rattle.damage.proofs.is_filler.Statement.{statement}
+use Rattle.damage.proofs.is_filler.Tie as tie
 
 enum-known-t : tie.Need-enum-known-t
 enum-known-t c = search needs

@@ -7,9 +7,9 @@ use borrow.Author.Needs.{needs}
 use lib.ListN.{length, take, drop, getD}
 use Rattle.notices.specs.Notices.{unfit}
 use Rattle.standing.specs.Rising.{filler, misfiled}
-use Rattle.places.proofs.Arrays.{next-of, none-left-of}
-use Rattle.places.proofs.misfiled.Statement.{statement}
-use Rattle.places.proofs.misfiled.Tie as tie
+use Rattle.standing.proofs.Reading.{next-of, none-left-of}
+use Rattle.damage.proofs.misfiled.Statement.{statement}
+use Rattle.damage.proofs.misfiled.Tie as tie
 
 abbrev Inv-loop : tie.InvT-loop
 Inv-loop n count notices last₀ i₀ last i =

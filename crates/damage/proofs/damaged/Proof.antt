@@ -11,8 +11,8 @@ use Rattle.fabric.specs.Labels.{outsideSizes}
 use Rattle.notices.specs.declared.Notice.{Notice}
 use Rattle.notices.specs.Notices.{unfit}
 use Rattle.standing.specs.Rising.{misfiled, littered}
-use Rattle.places.proofs.damaged.Statement.{statement}
-use Rattle.places.proofs.damaged.Tie as tie
+use Rattle.damage.proofs.damaged.Statement.{statement}
+use Rattle.damage.proofs.damaged.Tie as tie
 
 module _ (n count : ℕ) (notices : List Notice) where
   abbrev Damage : Bool

@@ -5,9 +5,9 @@ use native.Mathlib.Omega.{arith}
 use borrow.Author.Needs.{needs}
 use lib.ListN.{length, drop}
 use Rattle.standing.specs.Rising.{filler, littered}
-use Rattle.places.proofs.Arrays.{next, none-left}
-use Rattle.places.proofs.littered.Statement.{statement}
-use Rattle.places.proofs.littered.Tie as tie
+use Rattle.standing.proofs.Reading.{next, none-left}
+use Rattle.damage.proofs.littered.Statement.{statement}
+use Rattle.damage.proofs.littered.Tie as tie
 
 abbrev Inv-loop : tie.InvT-loop
 Inv-loop count notices i₀ i = (i ≤ 48) × (length notices ≡ 48) × (littered (drop count notices) ≡ littered (drop i notices))
