@@ -4,7 +4,7 @@ use mathlib.Core.Bool.{Bool, true, false, not}
 use mathlib.Core.List.{List, []}
 use Prim.Native.Nat.{ℕ, _≤_, _<_}
 use native.Mathlib.Omega.{arith}
-use borrow.Author.Tests.{le-leb, lt-leb}
+use borrow.Author.Tests.{le-leb, lt-leb, not-false}
 use lib.ListN.{length}
 use Rattle.table.specs.declared.Refusal.{Refusal}
 use Rattle.table.specs.Numbers.{numberOf}
@@ -37,12 +37,12 @@ module _ (checks : List Check) (given made : Book) (r : Kept) where
   pub hands-back-refused-as : {x : Book} → (why : Refusal) → r .book ≡ x → x ≡ given → r .answer ≡ Answer.Refused why → Given (numberOf why) checks → HandsBack checks given made r
   hands-back-refused-as why e f = hands-back-refused why (e ∙ f)
 
-  pub hands-back-done-as : {x : Book} → r .book ≡ x → x ≡ made → r .answer ≡ Answer.Done → Passed checks → HandsBack checks given made r
-  hands-back-done-as e f = hands-back-done (e ∙ f)
-
 -- what a test says that is turned round
 pub turned : {made meant b : Bool} → made ≡ meant → not made ≡ b → not meant ≡ b
 turned e f = ap not (sym e) ∙ f
+
+pub found : {made meant : Bool} → made ≡ meant → not made ≡ false → meant ≡ true
+found {made = made} e f = sym e ∙ not-false made f
 
 -- "48 stand already": as many stand as the book counts
 module _ (b : Book) (sound : Sound b) (places : length (b .notices) ≡ 48) where

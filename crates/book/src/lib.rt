@@ -4,12 +4,8 @@ use table::Answer;
 use table::Refusal;
 ghost use mathlib.Core.Path.{_≡_};
 ghost use mathlib.Core.Bool.{false};
-ghost use Prim.Native.Nat.{_<_};
-ghost use Rattle.fabric.specs.Labels.{size};
 ghost use Rattle.book.specs.Standing.{unsound, Sound};
 ghost use Rattle.book.specs.Entries.{Opens, Files, Withdraws};
-
-mod held; // held.rt: what stands in a book
 
 // The first `count` notices stand, by rising number; every place after them holds number 0 and the first target, all zero.
 pub struct Book {
@@ -32,15 +28,6 @@ pub fn unsound(book: Book) -> bool
     damage::damaged(book.n, notices, book.count)
 }
 
-fn done(book: Book) -> Kept
-    ensures { λ r. ⌜ (r .book ≡ book) × (r .answer ≡ Answer.Done) ⌝ }
-{
-    Kept {
-        book,
-        answer: Answer::Done,
-    }
-}
-
 fn refused(book: Book, why: Refusal) -> Kept
     ensures { λ r. ⌜ (r .book ≡ book) × (r .answer ≡ Answer.Refused why) ⌝ }
 {
@@ -56,10 +43,23 @@ impl Book {
     pub fn open(n: u8) -> Kept
         ensures { λ r. ⌜ Opens n r ⌝ }
     {
+        let notices = places::unused();
         if fabric::outside_sizes(n) {
-            return refused(held::empty(0), Refusal::Size);
+            let none = Book {
+                n: 0,
+                count: 0,
+                notices,
+            };
+            return refused(none, Refusal::Size);
         }
-        done(held::empty(n))
+        Kept {
+            book: Book {
+                n,
+                count: 0,
+                notices,
+            },
+            answer: Answer::Done,
+        }
     }
 
     // "file: 16, 3, 4, 5, 6, 7, 8."
@@ -97,7 +97,16 @@ impl Book {
         if 48 <= self.count {
             return refused(self, Refusal::Full);
         }
-        done(held::inserted(self, notice))
+        let grown = places::inserted(notices, self.count, notice);
+        let more = self.count + 1;
+        Kept {
+            book: Book {
+                n,
+                count: more,
+                notices: grown,
+            },
+            answer: Answer::Done,
+        }
     }
 
     // "withdraw: 16, 3, 9."
@@ -122,6 +131,15 @@ impl Book {
         if !places::stands(notices, self.count, number) {
             return refused(self, Refusal::Absent);
         }
-        done(held::removed(self, number))
+        let shrunk = places::removed(notices, self.count, number);
+        let fewer = self.count - 1;
+        Kept {
+            book: Book {
+                n: self.n,
+                count: fewer,
+                notices: shrunk,
+            },
+            answer: Answer::Done,
+        }
     }
 }

@@ -6,7 +6,8 @@ use borrow.Author.Needs.{needs}
 use lib.ListN.{length}
 use Rattle.table.proofs.Checks.{refusing, accepting}
 use Rattle.book.proofs.Filings.{sound-passes}
-use Rattle.book.proofs.Answers.{hands-back-done-as, hands-back-refused, full, not-full}
+use Rattle.book.proofs.Placing.{book-inserts}
+use Rattle.book.proofs.Answers.{hands-back-done, hands-back-refused, full, not-full}
 use Rattle.standing.proofs.Reading.{length-mapped}
 use Rattle.book.proofs.Book.filed.Statement.{statement}
 use Rattle.book.proofs.Book.filed.Tie as tie
@@ -65,10 +66,10 @@ returns-6 c =
     search (hands-back-refused, refusing, sound-passes) depth 12
 
 inserted-requires : tie.Need-inserted-requires
-inserted-requires c κs = let h = c .if6 .left in (search needs, omega arith)
+inserted-requires c κs = search needs
 
-done-requires : tie.Need-done-requires
-done-requires c κs = search needs
+add-more : tie.Need-add-more
+add-more c = search needs
 
 returns-7 : tie.Need-returns-7
 returns-7 c =
@@ -76,7 +77,8 @@ returns-7 c =
     let b = start .args .self in
     let places : length (b .notices) ≡ 48 = search (needs, length-mapped) in
     let f = not-full b (start .pre) places (let h = c .before .before .if6 .left in omega arith) in
-    search (hands-back-done-as, accepting, sound-passes) depth 16
+    let e = book-inserts b (start .pre) places (start .args .notice) (c .before .inserted .ensures) in
+    search (hands-back-done, accepting, sound-passes) depth 16
 
 pub filed-spec : {M : Type 1} → statement M
 filed-spec =
@@ -99,5 +101,5 @@ filed-spec =
     refused-requires-6
     returns-6
     inserted-requires
-    done-requires
+    add-more
     returns-7)
