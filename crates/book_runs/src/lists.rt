@@ -5,10 +5,12 @@ use super::listing;
 use super::open;
 use super::pattern;
 use super::switch;
+use book::Book;
 use show::word;
 
-// The bytes of the memory after a listing.
-fn held(memory: &[u8]) {
+// A listing, and the bytes of the memory after it.
+fn held(book: Book, memory: &mut [u8]) {
+    listing(book, memory);
     show::bytes(memory);
     word(b"\n");
 }
@@ -22,15 +24,10 @@ pub fn run() {
     let b2 = file(b1, switch(258, 2, 5));
     let b3 = file(b2, links(7, 0, 1, 4));
     let mut short = [170u8; 29];
-    listing(b3, &mut short);
-    held(&short);
+    held(b3, &mut short);
     let mut just = [170u8; 30];
-    listing(b3, &mut just);
-    held(&just);
+    held(b3, &mut just);
     let mut long = [170u8; 33];
-    listing(b3, &mut long);
-    held(&long);
-    let refused = open(0);
-    listing(refused, &mut long);
-    held(&long);
+    held(b3, &mut long);
+    held(open(0), &mut long);
 }

@@ -1,6 +1,7 @@
 // Runs the book's entries on document 01's example 13, on a full book, on every refusal that they give, and on damaged books,
 // and writes a line for each call.
 use book::Book;
+use book::Kept;
 use notices::Notice;
 use notices::Target;
 use questions::Link;
@@ -25,12 +26,15 @@ fn main() {
     lists::run();
 }
 
-pub fn told(answer: Answer) {
+// Writes the answer, and hands on the book.
+fn told(kept: Kept) -> Book {
+    let answer = kept.answer;
     match answer {
         Answer::Done => word(b" OK"),
         Answer::Refused(why) => refused(why),
     }
     word(b"\n");
+    kept.book
 }
 
 pub fn links(number: u16, stage: u8, switch: u16, set: u8) -> Notice {
@@ -62,31 +66,19 @@ pub fn pattern(number: u16, stage: u8, value: u16, mask: u16, set: u8) -> Notice
 pub fn open(n: u8) -> Book {
     word(b"open");
     number(n as u64);
-    let kept = Book::open(n);
-    let answer = kept.answer;
-    told(answer);
-    let book = kept.book;
-    book
+    told(Book::open(n))
 }
 
 pub fn file(book: Book, notice: Notice) -> Book {
     word(b"file");
     number(notice.number as u64);
-    let kept = book.file(notice);
-    let answer = kept.answer;
-    told(answer);
-    let after = kept.book;
-    after
+    told(book.file(notice))
 }
 
 pub fn withdraw(book: Book, k: u16) -> Book {
     word(b"withdraw");
     number(k as u64);
-    let kept = book.withdraw(k);
-    let answer = kept.answer;
-    told(answer);
-    let after = kept.book;
-    after
+    told(book.withdraw(k))
 }
 
 // A link by stage, switch and code.
