@@ -6,7 +6,7 @@
  * function is defined for every value of its numbers and for all bytes of every length, keeps no state, allocates nothing, and returns.
  *
  * TO LINK: `rt staticlib face` writes target/staticlib/libface.a, for Linux on x86-64, position independent. Of the C library it needs
- * memcpy and memmove at most. A call uses less than 8 KiB of stack, the C library's part not counted: trials/stack.c fills a stack with a
+ * memcpy alone. A call uses less than 8 KiB of stack, the C library's part not counted: trials/stack.c fills a stack with a
  * pattern, makes each call on it, over a sheet of 60 filings, and looks how far the pattern is gone.
  *
  * AN ANSWER is one number. Its low byte is the number of document 01's table, 0 where the call was accepted; the bits from 8 on are the

@@ -1,12 +1,12 @@
--- Laws of writing: one text after another, a byte after a text, and a text laid byte by byte.
-use mathlib.Core.Path.{_≡_, refl, sym, ap, ap₂, _∙_}
+-- Laws of writing: one text after another, a byte before a text, and a text laid byte by byte.
+use mathlib.Core.Path.{_≡_, sym, ap, ap₂, _∙_}
 use mathlib.Core.List.{List, [], _∷_, _++_, append-assoc}
 use Prim.Native.Nat.{ℕ, _+_, _≤_, _<_}
 use native.Mathlib.Nat.{add-zero, zero-add}
 use native.Mathlib.Numerals.{add-one}
 use native.Mathlib.Omega.{arith}
 use lib.ListN.{length, take, drop, set, getD, length-append, length-drop}
-use lib.Seq.{paste, paste-zero, take-all, take-at, drop-append-add, drop-drop, length-take-le, take-suc, append-snoc, set-split, set-at}
+use lib.Seq.{paste, paste-zero, take-all, take-at, drop-append-add, drop-drop, length-take-le, take-suc, append-snoc, set-at}
 use Rattle.words.specs.Wrote.{Wrote}
 
 module _ (before : List ℕ) (at : ℕ) (fits : at ≤ length before) where
@@ -40,14 +40,6 @@ module _ (before : List ℕ) (at : ℕ) (fits : at ≤ length before) where
   -- nothing
   pub wrote-none : Wrote before at [] before at
   wrote-none = record { leaves = paste-zero before at []; ends = sym (add-zero at) }
-
-  -- a byte
-  pub wrote-byte : (x : ℕ) → at < length before → Wrote before at (x ∷ []) (set before at x) (at + 1)
-  wrote-byte x h =
-      record {
-        leaves = set-split before at x h ∙ ap (λ (k : ℕ). take at before ++ x ∷ drop k before) (sym (add-one at)) ∙ sym (append-snoc (take at before) x (drop (at + 1) before));
-        ends = refl;
-      }
 
   -- a whole text, laid byte by byte
   pub wrote-laid : {text after : List ℕ} {n next : ℕ} → after ≡ paste before at text n → n ≡ length text → next ≡ at + n → Wrote before at text after next
