@@ -1,4 +1,4 @@
-/* Tabashfar for C: the entries of document 01 over numbers and byte slices.
+/* Tabashfar for C: the entries of document 01, and of document 02's §1, over numbers and byte slices.
  *
  * A slice is two arguments, where its bytes start and how many there are. The bytes of a `const` slice are only read. Of lent memory
  * (`memory`, `answers`) exactly what is said at the function is written, and nothing where the call is refused. A slice may be empty; its pointer
@@ -15,10 +15,44 @@
  *     tabashfar_number(answer)   0, or the table's number
  *     tabashfar_value(answer)    the value; at number 11 the stage
  *
- * A BOOK is handed over as the sheet whose actions make it: its filings and withdrawals are made one after the other from an empty book
- * of the sheet's size, the accepted as well as the refused; its routes and layout faults are passed over. A sheet whose header is
- * refused gives the header's number (14, 1 or 15). The book that a filing or a withdrawal hands back is that of the sheet with the
- * action appended.
+ * A BOOK is held by the host, as a sheet: the sheet's filings and withdrawals are made one after the other from an empty book of its size, the
+ * accepted as well as the refused; its routes and layout faults are passed over. Any sheet will do. One whose header is refused gives
+ * the header's number (14, 1 or 15), before the numbers that are named at a function.
+ *
+ * tabashfar_open, the three filings, tabashfar_withdraw and tabashfar_write hand a book back: they write its version 1 sheet at the front of the
+ * memory, a header and one filing for each standing notice, by rising number. The bytes after it stay, and the value is its length.
+ * TABASHFAR_BOOK bytes have room for the sheet of every book; where the memory is shorter than the sheet that would be written, 13 comes
+ * after the other numbers. A change that is refused writes nothing, so the book is still the sheet that was handed over.
+ *
+ * THE LIFE OF A BOOK, with the notices of document 01's example. Two slices of one call do not overlap, so a host has two memories: the book
+ * lies in one, and the other is lent to the next change. After an accepted change they have swapped. A book is closed by doing nothing
+ * more. trials/hosts compiles and runs this text:
+ *
+ *     #include <assert.h>
+ *     #include "tabashfar.h"
+ *
+ *     static uint8_t memory[2][TABASHFAR_BOOK]; // the book is the sheet of `length` bytes in memory[at], and memory[!at] is lent
+ *     static size_t at, length;
+ *
+ *     static unsigned changed(uint64_t answer) {
+ *         if (tabashfar_number(answer) == 0) at = !at, length = tabashfar_value(answer);
+ *         return tabashfar_number(answer);
+ *     }
+ *
+ *     int main(void) {
+ *         unsigned opened = changed(tabashfar_open(3, memory[!at], TABASHFAR_BOOK));
+ *         unsigned filed = changed(tabashfar_file_links(memory[at], length, 7, 0, 1, 4, memory[!at], TABASHFAR_BOOK));
+ *         unsigned also = changed(tabashfar_file_pattern(memory[at], length, 8, 0, 1, 3, 4, memory[!at], TABASHFAR_BOOK));
+ *         unsigned twice = changed(tabashfar_file_switch(memory[at], length, 7, 1, 2, memory[!at], TABASHFAR_BOOK));
+ *         uint64_t tag = tabashfar_route(memory[at], length, 1, 0);
+ *         unsigned withdrawn = changed(tabashfar_withdraw(memory[at], length, 7, memory[!at], TABASHFAR_BOOK));
+ *         uint64_t listed = tabashfar_listing(memory[at], length, memory[!at], TABASHFAR_BOOK);
+ *         assert(opened == 0 && filed == 0 && also == 0 && withdrawn == 0);
+ *         assert(twice == 7); // 7 stood already: nothing was written
+ *         assert(tabashfar_value(tag) == 8 && tabashfar_value(listed) == 1);
+ *     }
+ *
+ * What lies in memory[at] is a sheet: it can be kept in a file, sent to another card, or run by the desk.
  */
 #ifndef TABASHFAR_H
 #define TABASHFAR_H
@@ -46,17 +80,25 @@ uint64_t tabashfar_normal_form(uint8_t n, uint16_t source, uint32_t tag);
 
 /* The book. */
 
-/* Refuses 1. */
-uint64_t tabashfar_open(uint8_t n);
+/* The bytes that have room for the sheet of every book: a header and 48 filings. */
+enum { TABASHFAR_BOOK = 8 + 10 * 48 };
 
-/* A filing, of each target. Refuses 3, 4, 5, 6, 7, 8. */
-uint64_t tabashfar_file_links(const uint8_t *sheet, size_t sheet_len, uint16_t number, uint8_t stage, uint16_t sw, uint8_t set);
-uint64_t tabashfar_file_switch(const uint8_t *sheet, size_t sheet_len, uint16_t number, uint8_t column, uint16_t sw);
+/* Refuses 1, 13. Writes the sheet of an empty book. Value: its length, 8. */
+uint64_t tabashfar_open(uint8_t n, uint8_t *memory, size_t memory_len);
+
+/* A filing, of each target. Refuses 3, 4, 5, 6, 7, 8, 13. Writes the sheet of the book with the notice. Value: its length. */
+uint64_t tabashfar_file_links(const uint8_t *sheet, size_t sheet_len, uint16_t number, uint8_t stage, uint16_t sw, uint8_t set,
+                              uint8_t *memory, size_t memory_len);
+uint64_t tabashfar_file_switch(const uint8_t *sheet, size_t sheet_len, uint16_t number, uint8_t column, uint16_t sw, uint8_t *memory,
+                               size_t memory_len);
 uint64_t tabashfar_file_pattern(const uint8_t *sheet, size_t sheet_len, uint16_t number, uint8_t stage, uint16_t value, uint16_t mask,
-                                uint8_t set);
+                                uint8_t set, uint8_t *memory, size_t memory_len);
 
-/* Refuses 3, 9. */
-uint64_t tabashfar_withdraw(const uint8_t *sheet, size_t sheet_len, uint16_t number);
+/* Refuses 3, 9, 13. Writes the sheet of the book without the notice. Value: its length. */
+uint64_t tabashfar_withdraw(const uint8_t *sheet, size_t sheet_len, uint16_t number, uint8_t *memory, size_t memory_len);
+
+/* Refuses 13. Writes the sheet of the book as it is, which is the same for every sheet that makes this book. Value: its length. */
+uint64_t tabashfar_write(const uint8_t *sheet, size_t sheet_len, uint8_t *memory, size_t memory_len);
 
 /* Refuses 4, 12. Value: 0 clear, 1 stopped. */
 uint64_t tabashfar_link(const uint8_t *sheet, size_t sheet_len, uint8_t stage, uint16_t sw, uint8_t code);

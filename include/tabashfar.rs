@@ -1,5 +1,27 @@
-//! Tabashfar for Rust: the entries of document 01 over slices, safe to call, as a module of a program of edition 2018 or later. The static
-//! library of the crate `face` is linked beside it; tabashfar.h says what each entry writes and answers, and what linking needs.
+//! Tabashfar for Rust: the entries of document 01, and of document 02's §1, over slices, safe to call, as a module of a program of edition
+//! 2018 or later. The static library of the crate `face` is linked beside it; tabashfar.h says what each entry writes and answers, and
+//! what linking needs.
+//!
+//! A book is held by the program, as a sheet. A change writes the sheet of the book after it into lent memory and hands it back as
+//! a part of that memory. The whole life of a book, with two memories in turn; trials/hosts compiles and runs this text:
+//!
+//! ```ignore
+//! mod tabashfar;
+//!
+//! fn main() -> Result<(), tabashfar::Refused> {
+//!     let (mut one, mut two) = ([0; tabashfar::BOOK], [0; tabashfar::BOOK]);
+//!     let book = tabashfar::open(3, &mut one)?;
+//!     let book = tabashfar::file_links(book, 7, 0, 1, 4, &mut two)?;
+//!     let book = tabashfar::file_pattern(book, 8, 0, 1, 3, 4, &mut one)?;
+//!     let twice = tabashfar::file_switch(book, 7, 1, 2, &mut two).unwrap_err();
+//!     let tag = tabashfar::route(book, 1, 0)?;
+//!     let book = tabashfar::withdraw(book, 7, &mut two)?;
+//!     let listed = tabashfar::listing(book, &mut one)?;
+//!     assert_eq!(twice.number, 7); // 7 stood already: nothing was written, and the book was still in `one`
+//!     assert_eq!((tag, listed), (8, 1));
+//!     Ok(()) // the book is closed by doing nothing more
+//! }
+//! ```
 
 // a program calls the entries that it needs
 #![allow(dead_code)]
@@ -9,13 +31,18 @@ mod raw {
         pub fn tabashfar_tag_to_steps(n: u8, source: u16, tag: u32, memory: *mut u8, memory_len: usize) -> u64;
         pub fn tabashfar_steps_to_tag(n: u8, source: u16, memory: *const u8, memory_len: usize) -> u64;
         pub fn tabashfar_normal_form(n: u8, source: u16, tag: u32) -> u64;
-        pub fn tabashfar_open(n: u8) -> u64;
-        pub fn tabashfar_file_links(sheet: *const u8, sheet_len: usize, number: u16, stage: u8, switch: u16, set: u8) -> u64;
-        pub fn tabashfar_file_switch(sheet: *const u8, sheet_len: usize, number: u16, column: u8, switch: u16) -> u64;
-        pub fn tabashfar_file_pattern(
-            sheet: *const u8, sheet_len: usize, number: u16, stage: u8, value: u16, mask: u16, set: u8,
+        pub fn tabashfar_open(n: u8, memory: *mut u8, memory_len: usize) -> u64;
+        pub fn tabashfar_file_links(
+            sheet: *const u8, sheet_len: usize, number: u16, stage: u8, switch: u16, set: u8, memory: *mut u8, memory_len: usize,
         ) -> u64;
-        pub fn tabashfar_withdraw(sheet: *const u8, sheet_len: usize, number: u16) -> u64;
+        pub fn tabashfar_file_switch(
+            sheet: *const u8, sheet_len: usize, number: u16, column: u8, switch: u16, memory: *mut u8, memory_len: usize,
+        ) -> u64;
+        pub fn tabashfar_file_pattern(
+            sheet: *const u8, sheet_len: usize, number: u16, stage: u8, value: u16, mask: u16, set: u8, memory: *mut u8, memory_len: usize,
+        ) -> u64;
+        pub fn tabashfar_withdraw(sheet: *const u8, sheet_len: usize, number: u16, memory: *mut u8, memory_len: usize) -> u64;
+        pub fn tabashfar_write(sheet: *const u8, sheet_len: usize, memory: *mut u8, memory_len: usize) -> u64;
         pub fn tabashfar_link(sheet: *const u8, sheet_len: usize, stage: u8, switch: u16, code: u8) -> u64;
         pub fn tabashfar_listing(sheet: *const u8, sheet_len: usize, memory: *mut u8, memory_len: usize) -> u64;
         pub fn tabashfar_route(sheet: *const u8, sheet_len: usize, source: u16, destination: u16) -> u64;
@@ -59,25 +86,50 @@ pub fn normal_form(n: u8, source: u16, tag: u32) -> Result<u32, Refused> {
     unpacked(unsafe { raw::tabashfar_normal_form(n, source, tag) }).map(|tag| tag as u32)
 }
 
-pub fn open(n: u8) -> Result<(), Refused> {
-    unpacked(unsafe { raw::tabashfar_open(n) }).map(|_| ())
+/// The bytes that have room for the sheet of every book: a header and 48 filings.
+pub const BOOK: usize = 8 + 10 * 48;
+
+/// The sheet that lies at the front of the memory, or the refusal.
+fn handed_back(answer: u64, memory: &[u8]) -> Result<&[u8], Refused> {
+    unpacked(answer).map(|length| &memory[..length as usize])
 }
 
-pub fn file_links(sheet: &[u8], number: u16, stage: u8, switch: u16, set: u8) -> Result<(), Refused> {
-    unpacked(unsafe { raw::tabashfar_file_links(sheet.as_ptr(), sheet.len(), number, stage, switch, set) }).map(|_| ())
+/// The sheet of an empty book.
+pub fn open(n: u8, memory: &mut [u8]) -> Result<&[u8], Refused> {
+    handed_back(unsafe { raw::tabashfar_open(n, memory.as_mut_ptr(), memory.len()) }, memory)
 }
 
-pub fn file_switch(sheet: &[u8], number: u16, column: u8, switch: u16) -> Result<(), Refused> {
-    unpacked(unsafe { raw::tabashfar_file_switch(sheet.as_ptr(), sheet.len(), number, column, switch) }).map(|_| ())
+/// The sheet of the book with the notice: a filing, of each target.
+pub fn file_links<'a>(sheet: &[u8], number: u16, stage: u8, switch: u16, set: u8, memory: &'a mut [u8]) -> Result<&'a [u8], Refused> {
+    let (lent, room) = (memory.as_mut_ptr(), memory.len());
+    let answer = unsafe { raw::tabashfar_file_links(sheet.as_ptr(), sheet.len(), number, stage, switch, set, lent, room) };
+    handed_back(answer, memory)
 }
 
-pub fn file_pattern(sheet: &[u8], number: u16, stage: u8, value: u16, mask: u16, set: u8) -> Result<(), Refused> {
-    let answer = unsafe { raw::tabashfar_file_pattern(sheet.as_ptr(), sheet.len(), number, stage, value, mask, set) };
-    unpacked(answer).map(|_| ())
+pub fn file_switch<'a>(sheet: &[u8], number: u16, column: u8, switch: u16, memory: &'a mut [u8]) -> Result<&'a [u8], Refused> {
+    let (lent, room) = (memory.as_mut_ptr(), memory.len());
+    let answer = unsafe { raw::tabashfar_file_switch(sheet.as_ptr(), sheet.len(), number, column, switch, lent, room) };
+    handed_back(answer, memory)
 }
 
-pub fn withdraw(sheet: &[u8], number: u16) -> Result<(), Refused> {
-    unpacked(unsafe { raw::tabashfar_withdraw(sheet.as_ptr(), sheet.len(), number) }).map(|_| ())
+pub fn file_pattern<'a>(
+    sheet: &[u8], number: u16, stage: u8, value: u16, mask: u16, set: u8, memory: &'a mut [u8],
+) -> Result<&'a [u8], Refused> {
+    let (lent, room) = (memory.as_mut_ptr(), memory.len());
+    let answer = unsafe { raw::tabashfar_file_pattern(sheet.as_ptr(), sheet.len(), number, stage, value, mask, set, lent, room) };
+    handed_back(answer, memory)
+}
+
+/// The sheet of the book without the notice.
+pub fn withdraw<'a>(sheet: &[u8], number: u16, memory: &'a mut [u8]) -> Result<&'a [u8], Refused> {
+    let answer = unsafe { raw::tabashfar_withdraw(sheet.as_ptr(), sheet.len(), number, memory.as_mut_ptr(), memory.len()) };
+    handed_back(answer, memory)
+}
+
+/// The sheet of the book as it is, which is the same for every sheet that makes this book.
+pub fn write<'a>(sheet: &[u8], memory: &'a mut [u8]) -> Result<&'a [u8], Refused> {
+    let answer = unsafe { raw::tabashfar_write(sheet.as_ptr(), sheet.len(), memory.as_mut_ptr(), memory.len()) };
+    handed_back(answer, memory)
 }
 
 /// Whether the link is stopped.

@@ -2,10 +2,11 @@
 
 use crate::compared::Compared;
 use crate::draw::Draw;
-use crate::entries::{self, action_at, action_reader, changes, header, link, listing, route, routes, run, walk};
+use crate::entries::{self, action_at, action_reader, header, link, listing, route, routes, run, walk};
 use crate::face;
-use crate::model::{self, Notice, Target};
-use crate::rows::{action, book_of, filing, sheet_of, withdrawal, Row};
+use crate::model::{self, book_of, Notice, Target};
+use crate::rows::{action, filing, sheet_of, withdrawal, Row};
+use crate::written;
 use std::collections::BTreeMap;
 
 /// Tags and steps at a random size.
@@ -46,7 +47,7 @@ pub fn random_book(compared: &mut Compared, draw: &mut Draw) {
         listing(compared, &sheet, &book, room);
     }
     let (notice, withdrawn) = (draw.notice(n, &near), draw.number());
-    changes(compared, n, &rows, &book, notice, withdrawn);
+    written::changes(compared, n, &rows, notice, withdrawn);
     let room = 24 + 48 * rows.len();
     for room in [room, room - 1, room + 9, 23] {
         run(compared, &sheet, room);
@@ -81,6 +82,10 @@ pub fn damaged_sheet(compared: &mut Compared, draw: &mut Draw) {
     route(compared, &sheet, &book, source, destination);
     routes(compared, &sheet, &book, &[source, destination, destination], draw.below(3) as usize);
     routes(compared, &sheet, &book, &[source, destination, destination, source], draw.below(4) as usize);
+    written::writes(compared, &sheet);
+    let room = draw.below(80) as usize;
+    entries::file(compared, &sheet, draw.notice(n, &near), room);
+    entries::withdraw(compared, &sheet, draw.number(), room);
 }
 
 /// Parts of every length, and ten bytes with one that matters.
@@ -103,7 +108,7 @@ pub fn full_book(compared: &mut Compared, draw: &mut Draw) {
         let book = book_of(&sheet);
         let number = if step == 2 { gone } else { 100 + draw.below(9) as u16 };
         let notice = Notice { number, target: Target::Switch { column: n, switch: draw.below(1 << n) as u16 } };
-        changes(compared, n, &rows, &book, notice, gone);
+        written::changes(compared, n, &rows, notice, gone);
         listing(compared, &sheet, &book, 479 + step);
         rows.push(withdrawal(gone));
     }
@@ -122,6 +127,7 @@ pub fn large_sheets(compared: &mut Compared, draw: &mut Draw) {
         }
         let book = book_of(&sheet);
         listing(compared, &sheet, &book, 480);
+        written::writes(compared, &sheet);
     }
 }
 

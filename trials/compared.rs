@@ -5,13 +5,16 @@ use std::fmt::Debug;
 
 #[derive(Default)]
 pub struct Compared {
-    times: BTreeMap<&'static str, u64>,
+    times: BTreeMap<String, u64>,
 }
 
 impl Compared {
     /// Both answers of an entry, and the case that they are for.
-    pub fn same<T: PartialEq + Debug>(&mut self, entry: &'static str, proved: T, model: T, case: impl FnOnce() -> String) {
-        *self.times.entry(entry).or_insert(0) += 1;
+    pub fn same<T: PartialEq + Debug>(&mut self, entry: &str, proved: T, model: T, case: impl FnOnce() -> String) {
+        match self.times.get_mut(entry) {
+            Some(times) => *times += 1,
+            None => drop(self.times.insert(entry.to_string(), 1)),
+        }
         if proved != model {
             let before: u64 = self.times.values().sum();
             eprintln!("trials: {entry} disagrees, after {before} comparisons\ncase:   {}\nproved: {proved:?}\nmodel:  {model:?}", case());

@@ -1,7 +1,7 @@
 //! What the cases are drawn from. Good values are drawn most often; bad ones over the whole range of their type, those that are bad by one
 //! high bit alone among them.
 
-use crate::model::{Notice, Target};
+use crate::model::{Book, Notice, Target};
 use crate::questions::Numbers;
 use crate::rows::{filing, question, withdrawal, Row};
 use std::collections::BTreeSet;
@@ -70,6 +70,12 @@ impl Draw {
     /// Few numbers, so that they are used again, or any.
     pub fn number(&mut self) -> u16 {
         if self.one_in(12) { self.below(1 << 16) as u16 } else { self.below(61) as u16 }
+    }
+
+    /// The number of a notice that stands, where one does.
+    pub fn standing(&mut self, book: &Book) -> u16 {
+        let notices = book.standing();
+        if notices.is_empty() { self.number() } else { notices[self.below(notices.len() as u32) as usize].number }
     }
 
     /// An action's place in a sheet of so many: one that is there, or not, by a little or by a high bit alone.

@@ -3,24 +3,19 @@
 use crate::compared::Compared;
 use crate::face::{self, Refused};
 use crate::model::{self, Action, Book, Notice, Target};
-use crate::rows::{filing, sheet_of, withdrawal, Row};
 
 /// A refusal as the model gives it: the number, and at 11 the stage.
 fn told<T>(answer: Result<T, Refused>) -> Result<T, (u8, Option<u8>)> {
     answer.map_err(|why| (why.number, if why.number == 11 { Some(why.stage) } else { None }))
 }
 
-fn number<T>(answer: Result<T, Refused>) -> Result<T, u8> {
+pub fn number<T>(answer: Result<T, Refused>) -> Result<T, u8> {
     answer.map_err(|why| why.number)
 }
 
 /// 0, or the table's number.
 fn code(answer: Result<(), Refused>) -> u8 {
     answer.map_or_else(|why| why.number, |_| 0)
-}
-
-pub fn open(compared: &mut Compared, n: u8) {
-    compared.same("open", code(face::open(n)), model::open(n).1, || format!("n {n}"));
 }
 
 /// Tag to steps, steps to tag and the normal form.
@@ -86,35 +81,54 @@ pub fn listing(compared: &mut Compared, sheet: &[u8], book: &Result<Book, u8>, r
     compared.same("listing", (number(face::listing(sheet, &mut proved)), proved), (answer, plain), || format!("sheet {sheet:?} room {room}"));
 }
 
-fn proved_filing(sheet: &[u8], x: Notice) -> u8 {
-    code(match x.target {
-        Target::Links { stage, switch, set } => face::file_links(sheet, x.number, stage, switch, set),
-        Target::Switch { column, switch } => face::file_switch(sheet, x.number, column, switch),
-        Target::Pattern { stage, value, mask, set } => face::file_pattern(sheet, x.number, stage, value, mask, set),
-    })
+/// What hands a book back, by both sides, each over so many bytes of memory: what is answered, and every byte after it.
+fn hands_back(
+    compared: &mut Compared, entry: &str, room: usize, proved: impl FnOnce(&mut [u8]) -> Result<usize, Refused>,
+    plain: impl FnOnce(&mut [u8]) -> Result<usize, u8>, case: impl Fn() -> String,
+) {
+    let (mut by_proof, mut by_model) = (vec![170; room], vec![170; room]);
+    let answers = (number(proved(&mut by_proof)), plain(&mut by_model));
+    let entry = match answers.1 {
+        Ok(_) => entry.to_string(),
+        Err(13) => format!("{entry}, memory too short"),
+        Err(_) => format!("{entry}, refused"),
+    };
+    compared.same(&entry, (answers.0, by_proof), (answers.1, by_model), || format!("{} room {room}", case()));
 }
 
-pub fn file(compared: &mut Compared, sheet: &[u8], book: &Result<Book, u8>, notice: Notice) -> Result<Book, u8> {
-    let mut after = book.clone();
-    let plain = after.as_mut().map_or_else(|k| *k, |b| b.file(notice));
-    compared.same("file", proved_filing(sheet, notice), plain, || format!("sheet {sheet:?} {notice:?}"));
-    after
+pub fn open(compared: &mut Compared, n: u8, room: usize) {
+    let proved = |memory: &mut [u8]| face::open(n, memory).map(<[u8]>::len);
+    hands_back(compared, "open", room, proved, |memory| model::open_for_host(n, memory), || format!("n {n}"));
 }
 
-pub fn withdraw(compared: &mut Compared, sheet: &[u8], book: &Result<Book, u8>, withdrawn: u16) -> Result<Book, u8> {
-    let mut after = book.clone();
-    let plain = after.as_mut().map_or_else(|k| *k, |b| b.withdraw(withdrawn));
-    compared.same("withdraw", code(face::withdraw(sheet, withdrawn)), plain, || format!("sheet {sheet:?} withdraw {withdrawn}"));
-    after
+/// The filing of a notice, by the entry that its target has.
+pub fn proved_filing(sheet: &[u8], x: Notice, memory: &mut [u8]) -> Result<usize, Refused> {
+    let filed = match x.target {
+        Target::Links { stage, switch, set } => face::file_links(sheet, x.number, stage, switch, set, memory),
+        Target::Switch { column, switch } => face::file_switch(sheet, x.number, column, switch, memory),
+        Target::Pattern { stage, value, mask, set } => face::file_pattern(sheet, x.number, stage, value, mask, set, memory),
+    };
+    filed.map(<[u8]>::len)
 }
 
-/// File and withdraw, by what they answer and by the listing of the book that they hand back.
-pub fn changes(compared: &mut Compared, n: u8, rows: &[Row], book: &Result<Book, u8>, notice: Notice, withdrawn: u16) {
-    let sheet = sheet_of(n, rows);
-    let filed = file(compared, &sheet, book, notice);
-    listing(compared, &sheet_of(n, &[rows, &[filing(notice)]].concat()), &filed, 480);
-    let left = withdraw(compared, &sheet, book, withdrawn);
-    listing(compared, &sheet_of(n, &[rows, &[withdrawal(withdrawn)]].concat()), &left, 480);
+pub fn file(compared: &mut Compared, sheet: &[u8], notice: Notice, room: usize) {
+    let plain = |memory: &mut [u8]| model::file_for_host(sheet, notice, memory);
+    hands_back(compared, "file", room, |memory| proved_filing(sheet, notice, memory), plain, || format!("sheet {sheet:?} {notice:?}"));
+}
+
+pub fn proved_withdrawing(sheet: &[u8], withdrawn: u16, memory: &mut [u8]) -> Result<usize, Refused> {
+    face::withdraw(sheet, withdrawn, memory).map(<[u8]>::len)
+}
+
+pub fn withdraw(compared: &mut Compared, sheet: &[u8], withdrawn: u16, room: usize) {
+    let proved = |memory: &mut [u8]| proved_withdrawing(sheet, withdrawn, memory);
+    let plain = |memory: &mut [u8]| model::withdraw_for_host(sheet, withdrawn, memory);
+    hands_back(compared, "withdraw", room, proved, plain, || format!("sheet {sheet:?} withdraw {withdrawn}"));
+}
+
+pub fn write(compared: &mut Compared, sheet: &[u8], room: usize) {
+    let proved = |memory: &mut [u8]| face::write(sheet, memory).map(<[u8]>::len);
+    hands_back(compared, "write", room, proved, |memory| model::write_for_host(sheet, memory), || format!("sheet {sheet:?}"));
 }
 
 pub fn header(compared: &mut Compared, sheet: &[u8]) {

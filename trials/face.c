@@ -1,4 +1,4 @@
-/* Calls every function of include/tabashfar.h once from C, on document 01's fabric of three stages. */
+/* Calls every function of include/tabashfar.h from C, on document 01's fabric of three stages. */
 #include "../include/tabashfar.h"
 
 #include <stdio.h>
@@ -6,6 +6,9 @@
 
 /* n = 3, one action: file 7, links, stage 0, switch 1, minus */
 static const uint8_t sheet[] = {'F', 'S', 'H', 0, 1, 3, 0, 1, 1, 0, 7, 1, 0, 0, 1, 0, 0, 4};
+
+/* the same book with the switch notice 8: column 1, switch 2 */
+static const uint8_t filed[] = {'F', 'S', 'H', 0, 1, 3, 0, 2, 1, 0, 7, 1, 0, 0, 1, 0, 0, 4, 1, 0, 8, 2, 1, 0, 2, 0, 0, 0};
 
 static int wrong = 0;
 
@@ -17,6 +20,36 @@ static void is(const char *what, uint64_t answer, unsigned number, uint64_t valu
     }
 }
 
+/* whether the memory begins with these bytes */
+static void holds(const char *what, const uint8_t *memory, const void *bytes, size_t length) {
+    if (memcmp(memory, bytes, length) != 0) {
+        fprintf(stderr, "face.c: %s wrote something else\n", what);
+        wrong = 1;
+    }
+}
+
+/* what hands a book back: each once accepted, the filings and the opening refused too */
+static void changes(void) {
+    uint8_t memory[TABASHFAR_BOOK] = {0};
+    const size_t len = sizeof sheet, room = sizeof memory;
+    is("open", tabashfar_open(3, memory, 8), 0, 8);
+    holds("open", memory, "FSH\0\1\3\0\0", 8);
+    is("open, 13 stages", tabashfar_open(13, memory, 8), 1, 0);
+    is("file_links", tabashfar_file_links(filed, sizeof filed, 9, 0, 2, 1, memory, room), 0, 38);
+    is("file_links, a number that stands", tabashfar_file_links(sheet, len, 7, 0, 2, 1, memory, room), 7, 0);
+    is("file_pattern", tabashfar_file_pattern(sheet, len, 9, 0, 1, 3, 7, memory, room), 0, 28);
+    is("file_pattern, too wide", tabashfar_file_pattern(sheet, len, 9, 0, 1, 1, 7, memory, room), 6, 0);
+    is("file_switch", tabashfar_file_switch(sheet, len, 8, 1, 2, memory, room), 0, 28);
+    is("file_switch, outside the fabric", tabashfar_file_switch(sheet, len, 8, 4, 2, memory, room), 4, 0);
+    is("file_switch, a byte short", tabashfar_file_switch(sheet, len, 8, 1, 2, memory, 27), 13, 0);
+    holds("file_switch", memory, filed, sizeof filed);
+    is("withdraw", tabashfar_withdraw(filed, sizeof filed, 8, memory, room), 0, len);
+    holds("withdraw", memory, sheet, len);
+    is("withdraw, a number that does not stand", tabashfar_withdraw(sheet, len, 9, memory, room), 9, 0);
+    is("write", tabashfar_write(filed, sizeof filed, memory, room), 0, sizeof filed);
+    holds("write", memory, filed, sizeof filed);
+}
+
 int main(void) {
     uint8_t memory[72] = {0};
     uint16_t fields[TABASHFAR_FIELDS] = {0};
@@ -26,11 +59,7 @@ int main(void) {
     is("tag_to_steps", tabashfar_tag_to_steps(3, 1, 8, memory, 3), 0, 0);
     is("steps_to_tag", tabashfar_steps_to_tag(3, 1, memory, 3), 0, 8);
     is("normal_form", tabashfar_normal_form(3, 1, 40), 0, 8);
-    is("open", tabashfar_open(13), 1, 0);
-    is("file_links", tabashfar_file_links(sheet, len, 7, 0, 2, 1), 7, 0);
-    is("file_switch", tabashfar_file_switch(sheet, len, 8, 4, 2), 4, 0);
-    is("file_pattern", tabashfar_file_pattern(sheet, len, 9, 0, 1, 1, 7), 6, 0);
-    is("withdraw", tabashfar_withdraw(sheet, len, 9), 9, 0);
+    changes();
     is("link", tabashfar_link(sheet, len, 0, 1, 2), 0, 1);
     is("listing", tabashfar_listing(sheet, len, memory, 10), 0, 1);
     is("route", tabashfar_route(sheet, len, 1, 0), 0, 8);
@@ -43,16 +72,13 @@ int main(void) {
     is("read_action", tabashfar_read_action(sheet + 8, 10), 0, 1);
     is("action_fields", tabashfar_action_fields(sheet + 8, 10, fields, TABASHFAR_FIELDS), 0, 1);
     is("run", tabashfar_run(sheet, len, memory, 72), 0, 20);
+    holds("run", memory, "SHEET 3 1\nFILE 7 OK\n", 20);
     if (tabashfar_action_part(sheet, len, 0) != 10 + 256 * 8) {
         fprintf(stderr, "face.c: action_part does not say ten bytes at 8\n");
         wrong = 1;
     }
     if (fields[TABASHFAR_NUMBER] != 7 || fields[TABASHFAR_KIND] != 1 || fields[TABASHFAR_SWITCH] != 1 || fields[TABASHFAR_SET] != 4) {
         fprintf(stderr, "face.c: action_fields wrote something else\n");
-        wrong = 1;
-    }
-    if (memcmp(memory, "SHEET 3 1\nFILE 7 OK\n", 20) != 0) {
-        fprintf(stderr, "face.c: run printed something else\n");
         wrong = 1;
     }
     return wrong;

@@ -1,4 +1,4 @@
-//! A host in Rust, as README's link line builds it: calls every entry of include/tabashfar.rs once, on document 01's fabric of three stages.
+//! A host in Rust, as README's link line builds it: calls every entry of include/tabashfar.rs, on document 01's fabric of three stages.
 
 #[path = "../include/tabashfar.rs"]
 mod tabashfar;
@@ -8,8 +8,29 @@ use tabashfar::{Fields, Refused};
 /// n = 3, one action: file 7, links, stage 0, switch 1, minus
 const SHEET: [u8; 18] = *b"FSH\0\x01\x03\0\x01\x01\0\x07\x01\0\0\x01\0\0\x04";
 
+/// The same book with the switch notice 8: column 1, switch 2.
+const FILED: [u8; 28] = *b"FSH\0\x01\x03\0\x02\x01\0\x07\x01\0\0\x01\0\0\x04\x01\0\x08\x02\x01\0\x02\0\0\0";
+
 fn refused<T>(number: u8) -> Result<T, Refused> {
     Err(Refused { number, stage: 0 })
+}
+
+/// What hands a book back: each once accepted, and refused.
+fn changes() {
+    let mut memory = [0; tabashfar::BOOK];
+    assert_eq!(tabashfar::open(3, &mut memory), Ok(&b"FSH\0\x01\x03\0\0"[..]));
+    assert_eq!(tabashfar::open(13, &mut memory), refused(1));
+    assert_eq!(tabashfar::open(3, &mut memory[..7]), refused(13));
+    assert_eq!(tabashfar::file_links(&FILED, 9, 0, 2, 1, &mut memory).map(<[u8]>::len), Ok(38));
+    assert_eq!(tabashfar::file_links(&SHEET, 7, 0, 2, 1, &mut memory), refused(7));
+    assert_eq!(tabashfar::file_pattern(&SHEET, 9, 0, 1, 3, 7, &mut memory).map(<[u8]>::len), Ok(28));
+    assert_eq!(tabashfar::file_pattern(&SHEET, 9, 0, 1, 1, 7, &mut memory), refused(6));
+    assert_eq!(tabashfar::file_switch(&SHEET, 8, 1, 2, &mut memory), Ok(&FILED[..]));
+    assert_eq!(tabashfar::file_switch(&SHEET, 8, 4, 2, &mut memory), refused(4));
+    assert_eq!(tabashfar::withdraw(&FILED, 8, &mut memory), Ok(&SHEET[..]));
+    assert_eq!(tabashfar::withdraw(&SHEET, 9, &mut memory), refused(9));
+    assert_eq!(tabashfar::write(&FILED, &mut memory), Ok(&FILED[..]));
+    assert_eq!(tabashfar::write(&FILED, &mut memory[..27]), refused(13));
 }
 
 fn main() {
@@ -17,11 +38,7 @@ fn main() {
     assert_eq!(tabashfar::tag_to_steps(3, 1, 8, &mut memory[..3]), Ok(()));
     assert_eq!(tabashfar::steps_to_tag(3, 1, &memory[..3]), Ok(8));
     assert_eq!(tabashfar::normal_form(3, 1, 40), Ok(8));
-    assert_eq!(tabashfar::open(13), refused(1));
-    assert_eq!(tabashfar::file_links(&SHEET, 7, 0, 2, 1), refused(7));
-    assert_eq!(tabashfar::file_switch(&SHEET, 8, 4, 2), refused(4));
-    assert_eq!(tabashfar::file_pattern(&SHEET, 9, 0, 1, 1, 7), refused(6));
-    assert_eq!(tabashfar::withdraw(&SHEET, 9), refused(9));
+    changes();
     assert_eq!(tabashfar::link(&SHEET, 0, 1, 2), Ok(true));
     assert_eq!(tabashfar::listing(&SHEET, &mut memory[..10]), Ok(1));
     assert_eq!(tabashfar::route(&SHEET, 1, 0), Ok(8));

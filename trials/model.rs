@@ -1,5 +1,5 @@
-//! A reference model of document 01 ("What the build covers, and its rules"), by the most obvious means.
-//! Sentences in quotation marks are 01's own. It was written from the documents alone, without sight of the proved code.
+//! A reference model of document 01 ("What the build covers, and its rules") and of document 02's §1, by the most obvious means.
+//! Sentences in quotation marks are the documents' own. It was written from the documents alone, without sight of the proved code.
 #![allow(dead_code)]
 
 use std::collections::BTreeSet;
@@ -503,10 +503,36 @@ impl Book {
         }
         Ok(self.notices.len())
     }
+
+    /// 02, §1: "Write a version 1 sheet from a book: a header and one filing per standing notice, by rising number."
+    pub fn sheet(&self) -> Vec<u8> {
+        let mut sheet = b"FSH\0\x01".to_vec();
+        sheet.push(self.n);
+        sheet.extend((self.notices.len() as u16).to_be_bytes());
+        for notice in &self.notices {
+            sheet.extend(filing_action(*notice));
+        }
+        sheet
+    }
+
+    /// 02, §1: "It answers the length; later bytes stay." "Refusals: 16, then 13."
+    pub fn write(&self, memory: &mut [u8]) -> Result<usize, u8> {
+        if self.cannot_be_produced() {
+            return Err(16);
+        }
+        let sheet = self.sheet();
+        if memory.len() < sheet.len() {
+            return Err(13);
+        }
+        for (place, byte) in memory.iter_mut().zip(&sheet) {
+            *place = *byte;
+        }
+        Ok(sheet.len())
+    }
 }
 
 // ---------------------------------------------------------------------------------------------------------
-// The sheet and what is printed.
+// The sheet.
 // ---------------------------------------------------------------------------------------------------------
 
 /// "Numbers are big-endian."
@@ -598,6 +624,59 @@ pub fn read_action(part: &[u8]) -> Result<Action, u8> {
         _ => Err(2),
     }
 }
+
+// ---------------------------------------------------------------------------------------------------------
+// A book that a host holds: it is handed over as a sheet, and "Each hands the book back with its answer" as the
+// sheet of the book after the change. The header's number comes first, then the entry's own, then 13 where the
+// memory is shorter than that sheet; "The lent memory is then untouched".
+// ---------------------------------------------------------------------------------------------------------
+
+/// The book that a sheet's actions make, "starting from an empty book"; the header's number where it is refused.
+pub fn book_of(sheet: &[u8]) -> Result<Book, u8> {
+    let (n, count) = header(sheet)?;
+    let (mut book, _) = open(n);
+    for k in 0..usize::from(count) {
+        match read_action(action_part(sheet, k)) {
+            Ok(Action::File(notice)) => drop(book.file(notice)),
+            Ok(Action::Withdraw(number)) => drop(book.withdraw(number)),
+            _ => {}
+        }
+    }
+    Ok(book)
+}
+
+/// The sheet of the book after a change, where the change answered 0.
+fn handed_back(book: &Book, answer: u8, memory: &mut [u8]) -> Result<usize, u8> {
+    if answer != 0 {
+        return Err(answer);
+    }
+    book.write(memory)
+}
+
+pub fn open_for_host(n: u8, memory: &mut [u8]) -> Result<usize, u8> {
+    let (book, answer) = open(n);
+    handed_back(&book, answer, memory)
+}
+
+pub fn file_for_host(sheet: &[u8], notice: Notice, memory: &mut [u8]) -> Result<usize, u8> {
+    let mut book = book_of(sheet)?;
+    let answer = book.file(notice);
+    handed_back(&book, answer, memory)
+}
+
+pub fn withdraw_for_host(sheet: &[u8], number: u16, memory: &mut [u8]) -> Result<usize, u8> {
+    let mut book = book_of(sheet)?;
+    let answer = book.withdraw(number);
+    handed_back(&book, answer, memory)
+}
+
+pub fn write_for_host(sheet: &[u8], memory: &mut [u8]) -> Result<usize, u8> {
+    book_of(sheet)?.write(memory)
+}
+
+// ---------------------------------------------------------------------------------------------------------
+// What is printed.
+// ---------------------------------------------------------------------------------------------------------
 
 /// "`OK`, or `REFUSED` and the table number"
 fn ok_or_refused(answer: u8) -> String {

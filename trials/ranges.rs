@@ -3,8 +3,8 @@
 use crate::compared::Compared;
 use crate::draw::Draw;
 use crate::entries;
-use crate::model::{Notice, Target};
-use crate::rows::{book_of, filing, question, sheet_of, withdrawal, Row};
+use crate::model::{book_of, Notice, Target};
+use crate::rows::{filing, question, sheet_of, withdrawal, Row};
 
 pub fn all(compared: &mut Compared, draw: &mut Draw) {
     sizes(compared);
@@ -26,7 +26,9 @@ pub fn all(compared: &mut Compared, draw: &mut Draw) {
 /// n over all bytes.
 fn sizes(compared: &mut Compared) {
     for n in 0..=255 {
-        entries::open(compared, n);
+        for room in [0, 7, 8, 9, 488, 65_536, 65_543] {
+            entries::open(compared, n, room);
+        }
         entries::tags(compared, n, 0, 0, &[0; 12]);
         entries::header(compared, &sheet_of(n, &[]));
         entries::run(compared, &sheet_of(n, &[question(0, 1)]), 72);
@@ -106,8 +108,7 @@ fn codes(compared: &mut Compared, draw: &mut Draw, n: u8) {
 /// Stages, columns, sets and masks of a notice over all their bytes and bits.
 fn notices(compared: &mut Compared, n: u8) {
     let sheet = sheet_of(n, &[]);
-    let book = book_of(&sheet);
-    let mut file = |target| drop(entries::file(compared, &sheet, &book, Notice { number: 1, target }));
+    let mut file = |target| [0, 17, 18, 19].iter().for_each(|&room| entries::file(compared, &sheet, Notice { number: 1, target }, room));
     for byte in 0..=255 {
         file(Target::Links { stage: byte, switch: 0, set: 1 });
         file(Target::Links { stage: 0, switch: 0, set: byte });
@@ -130,25 +131,33 @@ fn notices(compared: &mut Compared, n: u8) {
 fn numbers(compared: &mut Compared) {
     let target = Target::Links { stage: 0, switch: 0, set: 1 };
     let sheet = sheet_of(3, &[1, 2, 256, 257, 4096, 65535].map(|number| filing(Notice { number, target })));
-    let book = book_of(&sheet);
     for number in 0..=u16::MAX {
-        drop(entries::file(compared, &sheet, &book, Notice { number, target }));
-        drop(entries::withdraw(compared, &sheet, &book, number));
+        entries::file(compared, &sheet, Notice { number, target }, 78);
+        entries::withdraw(compared, &sheet, number, 58);
     }
 }
 
 /// Every byte at every place of a header, and every part of one.
 fn headers(compared: &mut Compared) {
     let sheet = sheet_of(3, &[question(0, 1)]);
+    let notice = Notice { number: 1, target: Target::Switch { column: 0, switch: 0 } };
     for place in 0..8 {
         for byte in 0..=255 {
             let mut changed = sheet.clone();
             changed[place] = byte;
             entries::header(compared, &changed);
             entries::routes(compared, &changed, &book_of(&changed), &[0, 1, 1, 8], 3);
+            for room in [0, 488] {
+                entries::write(compared, &changed, room);
+                entries::file(compared, &changed, notice, room);
+                entries::withdraw(compared, &changed, 1, room);
+            }
         }
     }
-    (0..sheet.len()).for_each(|length| entries::header(compared, &sheet[..length]));
+    for length in 0..sheet.len() {
+        entries::header(compared, &sheet[..length]);
+        entries::write(compared, &sheet[..length], 488);
+    }
 }
 
 /// Every count of 16 bits, in a sheet of the length that it asks for, of a byte less and of a byte more.

@@ -1,6 +1,6 @@
-//! Sheets made of rows of ten bytes, and the book that the model makes of them.
+//! Sheets made of rows of ten bytes.
 
-use crate::model::{self, Action, Book, Notice, Target};
+use crate::model::{Notice, Target};
 pub use crate::questions::action;
 
 pub type Row = [u8; 10];
@@ -27,18 +27,4 @@ pub fn withdrawal(number: u16) -> Row {
 
 pub fn question(source: u16, destination: u16) -> Row {
     action(3, 0, 0, 0, source.into(), destination.into(), 0)
-}
-
-/// The book that a sheet's actions make; the header's number where it is refused.
-pub fn book_of(sheet: &[u8]) -> Result<Book, u8> {
-    let (n, count) = model::header(sheet)?;
-    let mut book = model::open(n).0;
-    for k in 0..usize::from(count) {
-        match model::read_action(model::action_part(sheet, k)) {
-            Ok(Action::File(notice)) => drop(book.file(notice)),
-            Ok(Action::Withdraw(number)) => drop(book.withdraw(number)),
-            _ => {}
-        }
-    }
-    Ok(book)
 }

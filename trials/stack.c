@@ -49,11 +49,12 @@ static void make_sheet(void) {
     CALL(tag_to_steps, tabashfar_tag_to_steps(12, 1, 8, memory, 12)) \
     CALL(steps_to_tag, tabashfar_steps_to_tag(12, 1, memory, 12)) \
     CALL(normal_form, tabashfar_normal_form(12, 1, 40)) \
-    CALL(open, tabashfar_open(12)) \
-    CALL(file_links, tabashfar_file_links(sheet, sizeof sheet, 1, 0, 2, 1)) \
-    CALL(file_switch, tabashfar_file_switch(sheet, sizeof sheet, 1, 4, 2)) \
-    CALL(file_pattern, tabashfar_file_pattern(sheet, sizeof sheet, 1, 0, 1, 3, 7)) \
-    CALL(withdraw, tabashfar_withdraw(sheet, sizeof sheet, 200)) \
+    CALL(open, tabashfar_open(12, memory, sizeof memory)) \
+    CALL(file_links, tabashfar_file_links(sheet, sizeof sheet, 1, 0, 2, 1, memory, sizeof memory)) \
+    CALL(file_switch, tabashfar_file_switch(sheet, sizeof sheet, 1, 4, 2, memory, sizeof memory)) \
+    CALL(file_pattern, tabashfar_file_pattern(sheet, sizeof sheet, 1, 0, 1, 3, 7, memory, sizeof memory)) \
+    CALL(withdraw, tabashfar_withdraw(sheet, sizeof sheet, 200, memory, sizeof memory)) \
+    CALL(write, tabashfar_write(sheet, sizeof sheet, memory, sizeof memory)) \
     CALL(link, tabashfar_link(sheet, sizeof sheet, 0, 1, 2)) \
     CALL(listing, tabashfar_listing(sheet, sizeof sheet, memory, sizeof memory)) \
     CALL(route, tabashfar_route(sheet, sizeof sheet, 1, 4095)) \

@@ -1,5 +1,5 @@
-//! Trials of the proved controller against the model: every entry of document 01, through the static library of the crate `face`, and
-//! the program itself, through standard input. A disagreement ends the run and prints the case in full.
+//! Trials of the proved controller against the model: every entry of document 01 and of document 02's §1, through the static library of the
+//! crate `face`, and the programs themselves, through standard input. A disagreement ends the run and prints the case in full.
 //!
 //!     trials [ROUNDS [SEED]]     ROUNDS random cases of each kind; 400 and a fixed seed where none are given
 
@@ -9,13 +9,16 @@ mod draw;
 mod entries;
 #[path = "../include/tabashfar.rs"]
 mod face;
+mod life;
 mod model;
 mod program;
+mod programs;
 #[path = "../bench/questions.rs"]
 #[allow(dead_code)]
 mod questions;
 mod ranges;
 mod rows;
+mod written;
 
 use compared::Compared;
 use draw::Draw;
@@ -33,13 +36,17 @@ fn main() {
     ranges::all(&mut compared, &mut draw);
     cases::smallest_fabrics(&mut compared);
     cases::large_sheets(&mut compared, &mut draw);
+    written::every_count(&mut compared, &mut draw);
+    life::longest(&mut compared, &mut draw);
     for _ in 0..rounds {
         (0..200).for_each(|_| cases::random_tags(&mut compared, &mut draw));
         (0..20).for_each(|_| cases::random_book(&mut compared, &mut draw));
         (0..60).for_each(|_| cases::damaged_sheet(&mut compared, &mut draw));
         (0..60).for_each(|_| cases::random_part(&mut compared, &mut draw));
         cases::full_book(&mut compared, &mut draw);
+        written::after_a_run(&mut compared, &mut draw);
+        life::random(&mut compared, &mut draw);
     }
-    program::all(&mut compared, &mut draw);
+    programs::all(&mut compared, &mut draw);
     compared.report();
 }

@@ -17,6 +17,10 @@ ten k (Links stage switch s) = refl
 ten k (Switch column switch) = refl
 ten k (Pattern stage value mask s) = refl
 
+-- "ten bytes each": of every notice
+pub length-filing : (x : Notice) → length (filing x) ≡ 10
+length-filing x = ten (x .number) (x .target)
+
 rows-append : (a b : List Notice) → rows (a ++ b) ≡ rows a ++ rows b
 unfolding rows
 rows-append [] b = refl
@@ -26,7 +30,7 @@ pub length-rows : (l : List Notice) → length (rows l) ≡ 10 * length l
 unfolding rows
 length-rows [] = refl
 length-rows (x ∷ l) =
-    let e = ten (x .number) (x .target) in
+    let e = length-filing x in
     let h = length-rows l in
     length-append (filing x) (rows l) ∙ omega arith
 
@@ -34,9 +38,9 @@ length-rows (x ∷ l) =
 pub row-at : (l : List Notice) (d : Notice) (i : ℕ) → i < length l → take 10 (drop (10 * i) (rows l)) ≡ filing (getD l i d)
 unfolding rows
 row-at [] d i h = absurd (omega arith)
-row-at (x ∷ l) d zero h = take-at (filing x) (rows l) 10 (ten (x .number) (x .target))
+row-at (x ∷ l) d zero h = take-at (filing x) (rows l) 10 (length-filing x)
 row-at (x ∷ l) d (suc i) h =
-    let t = ten (x .number) (x .target) in
+    let t = length-filing x in
     let e : 10 * suc i ≡ length (filing x) + 10 * i = omega arith in
     ap (take 10) (ap (λ (k : ℕ). drop k (filing x ++ rows l)) e ∙ drop-append-add (filing x) (rows l) (10 * i)) ∙ row-at l d i (omega arith)
 
@@ -49,7 +53,7 @@ pub one-row-more : (ns : List Notice) (i : ℕ) (d : Notice) (m : List ℕ) → 
 one-row-more ns i d m h =
     let x : Notice = getD ns i d in
     let r : List ℕ = rows (take i ns) in
-    let t = ten (x .number) (x .target) in
+    let t = length-filing x in
     let l : length r ≡ 10 * i = length-rows (take i ns) ∙ ap (λ (k : ℕ). 10 * k) (length-take-le i ns (omega arith)) in
     let before : take (10 * i) (r ++ drop (10 * i) m) ≡ r = take-at r (drop (10 * i) m) (10 * i) l in
     let row : take 10 (filing x) ≡ filing x = take-all 10 (filing x) (omega arith) in

@@ -6,6 +6,7 @@ use super::listing;
 use super::pattern;
 use super::switch;
 use super::withdraw;
+use super::write;
 use book::Book;
 use notices::Notice;
 use show::word;
@@ -18,6 +19,8 @@ fn entries(why: &[u8], book: Book) {
     link(book, 0, 0, 0);
     let mut memory = [0u8; 30];
     listing(book, &mut memory);
+    let mut none = [0u8; 0];
+    write(book, &mut none);
 }
 
 // A book of size 3 in which the three notices lie in this order.

@@ -10,11 +10,13 @@ use show::number;
 use show::refused;
 use show::word;
 use table::Answer;
+use written::Written;
 
 mod full; // full.rt: 48 filings and the 49th
 mod refusals; // refusals.rt: each number of the table
 mod damaged; // damaged.rt: books that no entry hands back
 mod lists; // lists.rt: the listing's bytes
+mod sheets; // sheets.rt: a book's sheet
 
 fn main() {
     example_13();
@@ -24,6 +26,7 @@ fn main() {
     refusals::run();
     damaged::run();
     lists::run();
+    sheets::run();
 }
 
 // Writes the answer, and hands on the book.
@@ -103,6 +106,21 @@ pub fn listing(book: Book, memory: &mut [u8]) {
         Listing::Refused(why) => refused(why),
     }
     word(b"\n");
+}
+
+pub fn write(book: Book, memory: &mut [u8]) {
+    word(b"write in");
+    number(memory.len() as u64);
+    match writer::write(book, memory) {
+        Written::Sheet(bytes) => wrote(bytes),
+        Written::Refused(why) => refused(why),
+    }
+    word(b"\n");
+}
+
+fn wrote(bytes: u16) {
+    word(b" SHEET");
+    number(bytes as u64);
 }
 
 fn listed(count: usize) {

@@ -3,6 +3,7 @@ use mathlib.Core.Path.{_≡_, refl, sym, ap, ap₂, subst, _∙_}
 use mathlib.Core.Bool.{false}
 use mathlib.Core.List.{List, [], _++_}
 use Prim.Native.Nat.{ℕ, suc, _≤_}
+use lib.ListN.{length}
 use Rattle.fabric.specs.Labels.{outsideSizes}
 use Rattle.notices.specs.declared.Notice.{Notice}
 use Rattle.book.specs.declared.Book.{Book}
@@ -17,7 +18,7 @@ use Rattle.sheet.specs.Entries.{partOf}
 use Rattle.changes.specs.Runs.{Change, run}
 use Rattle.changes.specs.After.{changesOf, Changes, Changes.none, Changes.more, After}
 use Rattle.changes.proofs.Changes.{opens-leaves, files-change, withdraws-change, Good}
-use Rattle.changes.proofs.Sounds.{size-passes, good-is-sound}
+use Rattle.changes.proofs.Sounds.{size-passes, good-is-sound, good-places}
 use Rattle.changes.proofs.Reach.{good-run, opened-good, opened-is}
 use Rattle.changes.proofs.Since.{run-on}
 
@@ -66,8 +67,15 @@ pub nothing-changes : (b : Book) → b ≡ run [] b
 unfolding run
 nothing-changes b = refl
 
+after-good : {sheet : List ℕ} {n k : ℕ} {b : Book} → 1 ≤ n → n ≤ 12 → After sheet n k b → Good n b
+after-good {n = n} some few w =
+    let start : Good n (opened n) = subst (Good n) (sym (opened-is n (size-passes n some few))) (opened-good n) in
+    subst (Good n) (sym (w .makes)) (good-run n (w .changes) (opened n) start)
+
 -- the book of a sheet is one that 16 is not given for
 pub after-sound : {sheet : List ℕ} {n k : ℕ} {b : Book} → 1 ≤ n → n ≤ 12 → After sheet n k b → Sound b
-after-sound {n = n} {b = b} some few w =
-    let start : Good n (opened n) = subst (Good n) (sym (opened-is n (size-passes n some few))) (opened-good n) in
-    good-is-sound n b some few (subst (Good n) (sym (w .makes)) (good-run n (w .changes) (opened n) start))
+after-sound {n = n} {b = b} some few w = good-is-sound n b some few (after-good some few w)
+
+-- and has all its places
+pub after-places : {sheet : List ℕ} {n k : ℕ} {b : Book} → 1 ≤ n → n ≤ 12 → After sheet n k b → length (b .notices) ≡ 48
+after-places {n = n} {b = b} some few w = good-places n b (after-good some few w)

@@ -10,6 +10,7 @@ use Rattle.fabric.specs.Labels.{outsideSizes}
 use Rattle.notices.specs.declared.Notice.{Notice}
 use Rattle.notices.specs.Notices.{unfit}
 use Rattle.standing.specs.Rising.{filler, inPlaces, Filed}
+use Rattle.standing.proofs.Filings.{places-in-all}
 use Rattle.book.specs.declared.Book.{Book}
 use Rattle.book.specs.Standing.{standing, bookOf, Sound}
 use Rattle.book.proofs.Filings.{standing-of, unused-of, length-standing, split}
@@ -40,3 +41,7 @@ sound-book n l some few filed fits =
 -- a book as accepted changes make it is sound
 pub good-is-sound : (n : ℕ) (b : Book) → 1 ≤ n → n ≤ 12 → Good n b → Sound b
 good-is-sound n b some few g = subst Sound (sym (g .whole)) (sound-book n (standing b) some few (g .filed) (g .fits))
+
+-- and has all its places
+pub good-places : (n : ℕ) (b : Book) → Good n b → length (b .notices) ≡ 48
+good-places n b g = ap (λ (c : Book). length (c .notices)) (g .whole) ∙ places-in-all (standing b) (g .fits)

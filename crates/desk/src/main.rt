@@ -1,23 +1,40 @@
 // Document 01, 'The sheet and what is printed': the program that the desk runs. It reads a sheet on standard input, runs it,
 // and writes the lines on standard output.
-use input::Input;
+use input::Output;
 ghost use mathlib.Core.Path.{_≡_};
-ghost use Rattle.desk.specs.Reads.{inputAt};
+ghost use Rattle.input.specs.declared.Output.{Output};
+ghost use Rattle.input.specs.Answers.{WritesText, Promised, textPrinted};
 
 fn main() {
     let mut sheet = [0u8; input::INPUT_ROOM];
     let read = streams::read(&mut sheet);
     let mut lines = [0u8; input::TEXT_ROOM];
-    let output = program::run(&sheet, input_at(read.bytes, read.answer), &mut lines);
-    streams::write(&lines, output);
+    let output = program::run(&sheet, read, &mut lines);
+    say(output);
+    streams::print(
+        printed(&lines, output),
+        b"desk: standard output did not take all lines",
+    );
 }
 
-// What reading gives the program: the bytes that came, or that a read failed.
-fn input_at(bytes: usize, answer: isize) -> Input
-    ensures { λ r. ⌜ r ≡ inputAt bytes answer ⌝ }
+// What goes to standard output: the text, or nothing.
+fn printed<'a>(lines: &'a [u8], output: Output) -> &'a [u8]
+    requires { ⌜ Promised WritesText Output.Unread (now lines) output ⌝ }
+    ensures { λ r. ⌜ now r ≡ textPrinted (now (lines .entry)) output ⌝ }
 {
-    if answer < 0 {
-        return Input::Failed;
+    match output {
+        Output::Text(bytes) => &lines[..bytes],
+        Output::Unread => &lines[..0],
     }
-    Input::Bytes(bytes)
+}
+
+// Says on standard error why there is no text.
+fn say(output: Output) {
+    match output {
+        Output::Text(_) => {}
+        Output::Unread => streams::complain(
+            b"desk: standard input could not be read",
+            b"; nothing was run\n",
+        ),
+    }
 }

@@ -1,5 +1,5 @@
 -- No function of the face has a second answer, and none leaves lent memory in a second way: `tells-once` of packing, `over-sheet-once` of
--- handed and `fields-once` of fields, with the entries' own theorems. Here are those that write by an entry's own promise.
+-- handed, `sheet-told-once`, `asked-once` and `write-told-once` of held and `fields-once` of fields, with the entries' own theorems. Here are those that write by an entry's own promise.
 use mathlib.Core.Path.{_≡_, ap, sym, _∙_}
 use mathlib.Core.List.{List}
 use Prim.Native.Nat.{ℕ}

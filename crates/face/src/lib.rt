@@ -16,6 +16,7 @@ use packer::listed;
 use packer::ran;
 use packer::refused;
 use packer::tag_told;
+use packer::written;
 use table::Answer;
 ghost use Rattle.table.specs.Reply.{answerSays};
 ghost use mathlib.Core.Path.{_≡_};
@@ -23,7 +24,10 @@ ghost use Prim.Native.Nat.{_+_, _*_};
 ghost use lib.ListN.{length};
 ghost use Rattle.tags.specs.Entries.{tagSays, TagToSteps, StepsToTag, NormalForm};
 ghost use Rattle.notices.specs.declared.Target.the-variants.{Links, Switch, Pattern};
-ghost use Rattle.book.specs.Entries.{Opens, Files, Withdraws};
+ghost use Rattle.written.specs.Sheets.{writtenSays, Writes};
+ghost use Rattle.written.specs.Changes.{OpensSheet};
+ghost use Rattle.changes.specs.Runs.{Change};
+ghost use Rattle.held.specs.Lives.{Asks};
 ghost use Rattle.questions.specs.Entries.{linkSays, listingSays, Tests, Lists};
 ghost use Rattle.walks.specs.Entries.{walkSays, Walks};
 ghost use Rattle.routes.specs.Routed.{routeSays, Routes};
@@ -33,7 +37,7 @@ ghost use Rattle.printed.specs.Runs.{ranSays, Runs};
 ghost use Rattle.packing.specs.Packed.{byte, Tells};
 ghost use Rattle.fields.specs.Fields.{kindSays, ReadsFields};
 ghost use Rattle.pairs.specs.Pairs.{RoutesPairs};
-ghost use Rattle.handed.specs.Books.{keptSays, OverSheet, OverLent};
+ghost use Rattle.handed.specs.Books.{OverSheet, OverLent};
 
 // "tag to steps (n, source, tag, memory)"
 #[no_mangle]
@@ -59,32 +63,30 @@ pub extern "C" fn tabashfar_normal_form(n: u8, source: u16, tag: u32) -> u64
     tag_told(tagging::normal_form(n, source, tag))
 }
 
-// "open (n)"
+// "open (n)", the book handed back as a sheet
 #[no_mangle]
-pub extern "C" fn tabashfar_open(n: u8) -> u64
-    ensures { λ r. ⌜ Tells (Opens n) keptSays r ⌝ }
+pub extern "C" fn tabashfar_open(n: u8, memory: &mut [u8]) -> u64
+    ensures { λ r. ⌜ Tells (OpensSheet n (now (memory .entry)) (now (memory .exit))) writtenSays r ⌝ }
 {
     let kept = Book::open(n);
-    let answer = kept.answer;
-    answered(answer)
+    written(writer::handed_back(kept, memory))
 }
 
-fn filed(sheet: &[u8], notice: Notice) -> u64
-    ensures { λ r. ⌜ OverSheet (now (sheet .entry)) (λ b. Tells (Files b notice) keptSays) r ⌝ }
+fn filed(sheet: &[u8], notice: Notice, memory: &mut [u8]) -> u64
+    ensures { λ r. ⌜ Asks (now (sheet .entry)) (Change.file notice) (now (memory .entry)) (now (memory .exit)) r ⌝ }
 {
     let handed = book_of(sheet);
     let makes = handed.answer;
     match makes {
         Answer::Done => {
             let kept = handed.book.filed(notice);
-            let answer = kept.answer;
-            answered(answer)
+            written(writer::handed_back(kept, memory))
         }
         Answer::Refused(why) => refused(why),
     }
 }
 
-// "file", of each target
+// "file", of each target, the book handed back as a sheet
 #[no_mangle]
 pub extern "C" fn tabashfar_file_links(
     sheet: &[u8],
@@ -92,8 +94,9 @@ pub extern "C" fn tabashfar_file_links(
     stage: u8,
     switch: u16,
     set: u8,
+    memory: &mut [u8],
 ) -> u64
-    ensures { λ r. ⌜ OverSheet (now (sheet .entry)) (λ b. Tells (Files b (record { number = number; target = Links stage switch set })) keptSays) r ⌝ }
+    ensures { λ r. ⌜ Asks (now (sheet .entry)) (Change.file (record { number = number; target = Links stage switch set })) (now (memory .entry)) (now (memory .exit)) r ⌝ }
 {
     filed(
         sheet,
@@ -101,12 +104,19 @@ pub extern "C" fn tabashfar_file_links(
             number,
             target: Target::Links { stage, switch, set },
         },
+        memory,
     )
 }
 
 #[no_mangle]
-pub extern "C" fn tabashfar_file_switch(sheet: &[u8], number: u16, column: u8, switch: u16) -> u64
-    ensures { λ r. ⌜ OverSheet (now (sheet .entry)) (λ b. Tells (Files b (record { number = number; target = Switch column switch })) keptSays) r ⌝ }
+pub extern "C" fn tabashfar_file_switch(
+    sheet: &[u8],
+    number: u16,
+    column: u8,
+    switch: u16,
+    memory: &mut [u8],
+) -> u64
+    ensures { λ r. ⌜ Asks (now (sheet .entry)) (Change.file (record { number = number; target = Switch column switch })) (now (memory .entry)) (now (memory .exit)) r ⌝ }
 {
     filed(
         sheet,
@@ -114,6 +124,7 @@ pub extern "C" fn tabashfar_file_switch(sheet: &[u8], number: u16, column: u8, s
             number,
             target: Target::Switch { column, switch },
         },
+        memory,
     )
 }
 
@@ -125,8 +136,9 @@ pub extern "C" fn tabashfar_file_pattern(
     value: u16,
     mask: u16,
     set: u8,
+    memory: &mut [u8],
 ) -> u64
-    ensures { λ r. ⌜ OverSheet (now (sheet .entry)) (λ b. Tells (Files b (record { number = number; target = Pattern stage value mask set })) keptSays) r ⌝ }
+    ensures { λ r. ⌜ Asks (now (sheet .entry)) (Change.file (record { number = number; target = Pattern stage value mask set })) (now (memory .entry)) (now (memory .exit)) r ⌝ }
 {
     filed(
         sheet,
@@ -139,22 +151,35 @@ pub extern "C" fn tabashfar_file_pattern(
                 set,
             },
         },
+        memory,
     )
 }
 
-// "withdraw"
+// "withdraw", the book handed back as a sheet
 #[no_mangle]
-pub extern "C" fn tabashfar_withdraw(sheet: &[u8], number: u16) -> u64
-    ensures { λ r. ⌜ OverSheet (now (sheet .entry)) (λ b. Tells (Withdraws b number) keptSays) r ⌝ }
+pub extern "C" fn tabashfar_withdraw(sheet: &[u8], number: u16, memory: &mut [u8]) -> u64
+    ensures { λ r. ⌜ Asks (now (sheet .entry)) (Change.withdraw number) (now (memory .entry)) (now (memory .exit)) r ⌝ }
 {
     let handed = book_of(sheet);
     let makes = handed.answer;
     match makes {
         Answer::Done => {
             let kept = handed.book.withdrawn(number);
-            let answer = kept.answer;
-            answered(answer)
+            written(writer::handed_back(kept, memory))
         }
+        Answer::Refused(why) => refused(why),
+    }
+}
+
+// "Write a version 1 sheet from a book"
+#[no_mangle]
+pub extern "C" fn tabashfar_write(sheet: &[u8], memory: &mut [u8]) -> u64
+    ensures { λ r. ⌜ OverLent (now (sheet .entry)) (now (memory .entry)) (now (memory .exit)) (λ b. Tells (Writes b (now (memory .entry)) (now (memory .exit))) writtenSays) r ⌝ }
+{
+    let handed = book_of(sheet);
+    let makes = handed.answer;
+    match makes {
+        Answer::Done => written(writer::written(handed.book, memory)),
         Answer::Refused(why) => refused(why),
     }
 }

@@ -4,23 +4,15 @@ use mathlib.Core.List.{List, []}
 use Prim.Native.Nat.{ℕ}
 use Rattle.table.specs.declared.Refusal.{Refusal}
 use Rattle.table.specs.Numbers.{numberOf}
-use Rattle.table.specs.Reply.{Reply, refused}
-use Rattle.table.specs.Checks.{Check, checked}
 use Rattle.table.proofs.Checks.{zero-one}
 use Rattle.book.specs.declared.Book.{Book}
 use Rattle.table.specs.declared.Answer.{Answer}
-use Rattle.book.specs.declared.Kept.{Kept}
-use Rattle.book.specs.Entries.{HandsBack}
 use Rattle.changes.specs.After.{After}
 use Rattle.changes.proofs.After.{after-once}
 use Rattle.sheet.specs.declared.Header.{Header}
 use Rattle.sheet.specs.Entries.{ReadsHeader}
 use Rattle.sheet.proofs.Sheets.{header-once}
-use Rattle.handed.specs.Books.{keptSays, HandsOver, HandsOver.makes, HandsOver.refuses, Over, OverLent, OverSheet}
-
--- open, file and withdraw say what their checks give, and nothing of the book
-pub kept-says : (checks : List Check) (given made : Book) (k : Kept) → HandsBack checks given made k → keptSays k ≡ checked checks refused (Reply.accepted [])
-kept-says checks given made k h = h .says
+use Rattle.handed.specs.Books.{HandsOver, HandsOver.makes, HandsOver.refuses, Over, OverLent, OverSheet}
 
 -- with 'done' comes the book after all the actions that the header counts
 pub handed-makes : (sheet : List ℕ) (b : Book) (n count : ℕ) → HandsOver sheet b Answer.Done → ReadsHeader sheet (Header.Sheet n count) → After sheet n count b

@@ -2,6 +2,7 @@
 use mathlib.Core.Path.{_≡_, refl, _∙_}
 use mathlib.Core.List.{List}
 use Prim.Native.Nat.{ℕ}
+use lib.ListN.{length}
 use Rattle.table.specs.declared.Refusal.{Refusal}
 use Rattle.table.specs.Numbers.{numberOf}
 use Rattle.book.specs.declared.Book.{Book}
@@ -11,7 +12,9 @@ use Rattle.book.specs.Standing.{Sound}
 use Rattle.book.specs.Entries.{Opens}
 use Rattle.sheet.specs.declared.Header.{Header}
 use Rattle.sheet.specs.Entries.{ReadsHeader}
+use Rattle.sheet.proofs.Promises.{header-sizes}
 use Rattle.changes.specs.After.{After}
+use Rattle.changes.proofs.After.{after-places}
 use Rattle.handed.specs.Books.{HandsOver, HandsOver.makes, HandsOver.refuses, OverLent}
 
 module _ {sheet : List ℕ} {b : Book} where
@@ -29,6 +32,13 @@ module _ {sheet : List ℕ} {b : Book} where
       where
         go : HandsOver sheet b Answer.Done → Sound b
         go (makes reads after sound) = sound
+
+    -- and it has all its places
+    pub handed-places : a ≡ Answer.Done → length (b .notices) ≡ 48
+    handed-places e = go (rw e at hands)
+      where
+        go : HandsOver sheet b Answer.Done → length (b .notices) ≡ 48
+        go (makes reads after sound) = let size = header-sizes reads refl in after-places (size .0) (size .1) after
 
     module _ {before : List ℕ} {answers : Book → ℕ → Type 0} {r : ℕ} where
       pub over-handed : {after : List ℕ} → a ≡ Answer.Done → answers b r → OverLent sheet before after answers r

@@ -4,18 +4,12 @@ use mathlib.Core.List.{List, []}
 use Prim.Native.Nat.{ℕ}
 use Rattle.table.specs.declared.Refusal.{Refusal}
 use Rattle.table.specs.Numbers.{numberOf}
-use Rattle.table.specs.Reply.{Reply, answerSays}
 use Rattle.book.specs.declared.Book.{Book}
 use Rattle.table.specs.declared.Answer.{Answer}
-use Rattle.book.specs.declared.Kept.{Kept}
 use Rattle.book.specs.Standing.{bookOf, Sound}
 use Rattle.changes.specs.After.{After}
 use Rattle.sheet.specs.declared.Header.{Header}
 use Rattle.sheet.specs.Entries.{ReadsHeader}
-
--- what open, file and withdraw say; the book that they hand back stays on this side. `kept-says` ties it to their checks.
-abbrev pub keptSays : Kept → Reply
-keptSays k = answerSays (k .answer)
 
 -- what a sheet hands over, as an opening does: the book after all its actions, sound from its opening on, with 'done'; or the header's refusal,
 -- with a book of size 0 and no notices. `handed-once`: no second answer, and no second book.

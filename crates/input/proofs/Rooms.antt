@@ -1,24 +1,25 @@
 -- The longest sheet that the header accepts, the longest text, and what the front of a longer input answers.
-use mathlib.Core.Path.{_≡_, refl, sym, ap, ap₂, _∙_}
-use mathlib.Core.Bool.{Bool, true, false, not, _||_}
+use mathlib.Core.Path.{_≡_, refl, _∙_}
+use mathlib.Core.Bool.{Bool, true, false, not}
 use mathlib.Core.List.{List, [], _∷_, _++_}
 use Prim.Native.Nat.{ℕ, _+_, _*_, _≤_, _<_}
 use native.Mathlib.Decide.{decLe}
 use native.Mathlib.Omega.{arith}
 use borrow.Author.Tests.{le-ltb, lt-ltb, ltb-false, eqb-true, not-false}
 use lib.Dec.{eqb}
-use lib.ListN.{length, take, getD}
+use lib.ListN.{length, take}
 use lib.Seq.{length-take-le, getD-take, take-all}
-use Rattle.table.specs.Reply.{Reply.accepted, refused}
-use Rattle.table.specs.Checks.{Check, checked, _when_, _below_, Passed.none, Passed.passes}
+use Rattle.table.specs.Reply.{refused}
+use Rattle.table.specs.Checks.{checked, _when_, _below_, Passed.none, Passed.passes}
 use Rattle.table.proofs.Checks.{passed-nth, neither, neither-of, one-of, other-of, unequal, equal}
 use Rattle.fabric.specs.Labels.{outsideSizes}
 use Rattle.sheet.specs.declared.Header.{Header}
 use Rattle.actions.specs.Layout.{bytesBefore}
 use Rattle.sheet.specs.Format.{headerBytes, sizeIn, countIn}
 use Rattle.sheet.specs.Entries.{headerSays, wrongMark, wrongLength, headerChecks, ReadsHeader}
-use Rattle.sheet.proofs.Promises.{header-accepts, header-passed, header-fields}
+use Rattle.sheet.proofs.Promises.{header-accepts, header-passed}
 use Rattle.sheet.proofs.Sheets.{header-read}
+use Rattle.sheet.proofs.Cuts.{marks-agree}
 use Rattle.printed.specs.Runs.{room, Prints}
 use Rattle.printed.proofs.Promises.{room-within}
 use Rattle.input.specs.Rooms.{longestSheet, inputRoom, textRoom}
@@ -44,12 +45,6 @@ longest-is-accepted n actions some few e =
 -- no run asks for more room than that of the longest sheet
 pub text-fits : {sheet : List ℕ} (h : Header) → ReadsHeader sheet h → room h ≤ textRoom
 text-fits h reads = let e = room-within h reads in omega arith
-
--- the header's mark and size are read in the first eight bytes
-marks-agree : (input : List ℕ) (m : ℕ) → 8 ≤ m → 8 ≤ length input → 8 ≤ length (take m input) → wrongMark (take m input) ≡ wrongMark input
-marks-agree input m h long cut =
-    let same : (i : ℕ) → i < 8 → getD (take m input) i 0 ≡ getD input i 0 = λ i k. getD-take m input i 0 (omega arith) in
-    rw (le-ltb (length (take m input)) 8 cut, le-ltb (length input) 8 long, same 0 (omega arith), same 1 (omega arith), same 2 (omega arith), same 3 (omega arith), same 4 (omega arith))
 
 -- what is longer than the longest sheet has a wrong length, whatever count stands in it
 length-is-wrong : (sheet : List ℕ) → longestSheet < length sheet → wrongLength sheet ≡ true
@@ -87,17 +82,18 @@ front-answers input m h room reads = go (decLe (length input) m)
         let wrong = length-is-wrong (take m input) (omega arith) in
         record { says = reads .says ∙ rw (wrong, length-is-wrong input (omega arith), mark, size) }
 
+-- the front of an input that the header accepts is all of it
+pub front-is-all : (input : List ℕ) (m : ℕ) {n count : ℕ} → inputRoom ≤ m → ReadsHeader (take m input) (Header.Sheet n count) → take m input ≡ input
+front-is-all input m room reads = go (decLe (length input) m)
+  where
+    go : Dec (length input ≤ m) → take m input ≡ input
+    go (yes all) = take-all m input all
+    go (no more) =
+        let cut : length (take m input) ≡ m = length-take-le m input (omega arith) in
+        let few = none-is-longer reads in
+        absurd (omega arith)
+
 -- and what is printed of it is what is printed of all of it
 pub front-prints : (input : List ℕ) (m : ℕ) (h : Header) (text : List ℕ) → inputRoom ≤ m → ReadsHeader (take m input) h → Prints (take m input) h text → Prints input h text
 front-prints input m (Header.Refused why) text room reads p = p
-front-prints input m (Header.Sheet n count) text room reads p = rw same at p
-  where
-    same : take m input ≡ input
-    same = go (decLe (length input) m)
-      where
-        go : Dec (length input ≤ m) → take m input ≡ input
-        go (yes all) = take-all m input all
-        go (no more) =
-            let cut : length (take m input) ≡ m = length-take-le m input (omega arith) in
-            let few = none-is-longer reads in
-            absurd (omega arith)
+front-prints input m (Header.Sheet n count) text room reads p = rw (front-is-all input m room reads) at p

@@ -8,12 +8,14 @@ use table::Answer;
 use table::Refusal;
 use tags::Tag;
 use walks::Ended;
+use written::Written;
 ghost use Rattle.table.specs.Reply.{answerSays};
 ghost use mathlib.Core.Path.{_≡_};
 ghost use Prim.Native.Nat.{ℕ, _*_, _^_, _≤_, _<_};
 ghost use Rattle.tags.specs.Entries.{tagSays};
 ghost use Rattle.questions.specs.Entries.{linkSays, listingSays};
 ghost use Rattle.walks.specs.Entries.{walkSays};
+ghost use Rattle.written.specs.Sheets.{writtenSays};
 ghost use Rattle.routes.specs.Routed.{routeSays};
 ghost use Rattle.sheet.specs.Entries.{headerSays};
 ghost use Rattle.printed.specs.Runs.{mostRoom, ranSays};
@@ -73,6 +75,15 @@ pub fn listed(answer: Listing) -> u64
     match answer {
         Listing::Listed(count) => value(count as u64),
         Listing::Refused(why) => refused(why),
+    }
+}
+
+pub fn written(answer: Written) -> u64
+    ensures { λ r. ⌜ r ≡ packed (writtenSays answer) ⌝ }
+{
+    match answer {
+        Written::Sheet(bytes) => value(bytes as u64),
+        Written::Refused(why) => refused(why),
     }
 }
 

@@ -2,24 +2,11 @@
 use actions::ACTION_LENGTH;
 use notices::Notice;
 ghost use mathlib.Core.Path.{_≡_};
-ghost use Prim.Native.Nat.{_+_, _*_, _≤_};
+ghost use Prim.Native.Nat.{_*_, _≤_};
 ghost use mathlib.Core.List.{_++_};
 ghost use lib.ListN.{length, take, drop};
-ghost use lib.Seq.{paste};
 ghost use Rattle.actions.specs.Layout.{actionLength};
 ghost use Rattle.actions.specs.Rows.{rows};
-
-// Lays ten bytes at a place of the memory.
-fn lay(memory: &mut [u8], at: usize, row: [u8; ACTION_LENGTH])
-    requires { ⌜ at + actionLength ≤ length (now memory) ⌝ }
-    ensures { λ _. ⌜ now (memory .exit) ≡ paste (now (memory .entry)) at row actionLength ⌝ }
-{
-    let mut j = 0;
-    while j < ACTION_LENGTH {
-        memory[at + j] = row[j];
-        j += 1;
-    }
-}
 
 // Lays the first `count` notices at the front of the memory.
 pub fn laid(notices: [Notice; 48], count: usize, memory: &mut [u8])
@@ -30,7 +17,7 @@ pub fn laid(notices: [Notice; 48], count: usize, memory: &mut [u8])
     while i < count {
         let x = notices[i];
         let row = action_bytes::filing(x);
-        lay(memory, ACTION_LENGTH * i, row);
+        lent::lay(memory, ACTION_LENGTH * i, &row);
         i += 1;
     }
 }

@@ -10,7 +10,7 @@ use Rattle.book.specs.declared.Book.{Book}
 use Rattle.book.specs.declared.Kept.{Kept}
 use Rattle.questions.specs.declared.Link.{Link}
 use Rattle.questions.specs.declared.Listing.{Listing}
-use Rattle.book.specs.Entries.{opened, Files, Withdraws}
+use Rattle.book.specs.Entries.{opened, bookChecks, Files, Withdraws}
 use Rattle.questions.specs.Entries.{Tests, Lists}
 use Rattle.changes.specs.Runs.{Change, run, AllAccepted, StandsSince}
 use Rattle.standing.specs.Rising.{Distinct, Reordered}
@@ -18,6 +18,9 @@ use Rattle.standing.proofs.Distinct.{distinct-reordered}
 use Rattle.changes.proofs.Since.{same-book}
 use Rattle.book.proofs.Once.{files-once, withdraws-once}
 use Rattle.questions.proofs.Once.{tests-once, lists-once}
+use Rattle.written.specs.declared.Written.{Written}
+use Rattle.written.specs.Sheets.{Writes}
+use Rattle.written.proofs.Once.{writes-once}
 use Rattle.walks.specs.declared.Ended.{Ended}
 use Rattle.routes.specs.declared.Found.{Found}
 use Rattle.walks.specs.Entries.{Walks}
@@ -55,6 +58,9 @@ module _ (n : ℕ) (changes : List Change) (l : List Notice) (apart : Distinct l
 
   pub lists-alike : (lent left₁ left₂ : List ℕ) (q r : Listing) → Lists ran lent left₁ q → Lists new lent left₂ r → (q ≡ r) × (left₁ ≡ left₂)
   lists-alike lent left₁ left₂ q r p s = lists-once ran lent left₁ left₂ q r p (subst (λ (b : Book). Lists b lent left₂ r) same s)
+
+  pub writes-alike : (lent left₁ left₂ : List ℕ) (q r : Written) → Writes ran lent left₁ q → Writes new lent left₂ r → (q ≡ r) × (left₁ ≡ left₂)
+  writes-alike lent left₁ left₂ q r p s = writes-once (bookChecks ran) ran lent left₁ left₂ q r p (subst (λ (b : Book). Writes b lent left₂ r) same s)
 
   pub walks-alike : (s tag : ℕ) (q r : Ended) → Walks ran s tag q → Walks new s tag r → q ≡ r
   walks-alike s tag q r p w = walk-once ran s tag q r p (subst (λ (b : Book). Walks b s tag r) same w)

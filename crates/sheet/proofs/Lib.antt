@@ -6,3 +6,5 @@ pub mod Promises
 pub mod Sheets
 -- each answer exactly where 01 gives it
 pub mod Exactly
+-- and what is left of a sheet that was cut short
+pub mod Cuts

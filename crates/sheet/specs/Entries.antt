@@ -16,7 +16,7 @@ use Rattle.actions.specs.Layout.{actionLength, headerLength, bytesBefore}
 use Rattle.actions.specs.Format.{word}
 use Rattle.sheet.specs.Format.{sizeIn, countIn}
 
--- the number and values of each answer: `header-exactly`, `there-exactly`; `header-numbered`, `there-numbered`
+-- the number and values of each answer: `header-exactly`, `header-numbered`
 abbrev pub headerSays : Header → Reply
 headerSays (Header.Sheet n count) = Reply.accepted (n ∷ count ∷ [])
 headerSays (Header.Refused why) = refused (numberOf why)

@@ -1,19 +1,8 @@
-// What went wrong, in a line on standard error.
+// What is said on standard error.
 use libc::STDERR_FILENO;
 
-pub fn unread() {
-    complain(
-        b"desk: standard input could not be read",
-        b"; nothing was run\n",
-    );
-}
-
-pub fn unwritten() {
-    complain(b"desk: standard output did not take all lines", b"\n");
-}
-
 // What went wrong, the cause that the system gives for it, and what then.
-fn complain(what: &[u8], then: &[u8]) {
+pub fn complain(what: &[u8], then: &[u8]) {
     let errno = os::errno();
     say(what);
     say_cause(errno);
@@ -27,7 +16,7 @@ fn say_cause(errno: i32) {
     say(b": ");
     say_usual(errno);
     say(b" (errno ");
-    io::print_decimal(STDERR_FILENO, number(errno));
+    say_number(number(errno));
     say(b")");
 }
 
@@ -62,6 +51,10 @@ fn number(errno: i32) -> u64 {
     errno as u64
 }
 
-fn say(text: &[u8]) {
+pub fn say(text: &[u8]) {
     io::write_all(STDERR_FILENO, text);
+}
+
+pub fn say_number(x: u64) {
+    io::print_decimal(STDERR_FILENO, x);
 }

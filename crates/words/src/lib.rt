@@ -13,12 +13,8 @@ pub fn word(out: &mut [u8], at: usize, text: &[u8]) -> usize
     requires { ⌜ at + length (now text) ≤ length (now out) ⌝ }
     ensures { λ r. ⌜ Wrote (now (out .entry)) at (now (text .entry)) (now (out .exit)) r ⌝ }
 {
-    let mut j = 0;
-    while j < text.len() {
-        out[at + j] = text[j];
-        j += 1;
-    }
-    at + j
+    lent::lay(out, at, text);
+    at + text.len()
 }
 
 // A number in decimal, its last digit first.

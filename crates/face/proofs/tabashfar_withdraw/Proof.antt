@@ -1,6 +1,8 @@
--- The header's refusal, or the entry over the book that the sheet makes.
-use Rattle.handed.proofs.Overs.{handed-sound, over-handed, over-refused}
+-- The header's refusal, or the change of the book that the sheet makes, handed back as a sheet.
 use borrow.Author.Needs.{needs}
+use Rattle.changes.specs.Runs.{Change}
+use Rattle.written.proofs.Handing.{changed-sound}
+use Rattle.handed.proofs.Overs.{handed-sound, handed-places, over-handed, over-refused}
 use Rattle.face.proofs.tabashfar_withdraw.Statement.{statement}
 use Rattle.face.proofs.tabashfar_withdraw.Tie as tie
 
@@ -13,8 +15,15 @@ enum-told c = search needs
 withdrawn-requires : tie.Need-withdrawn-requires
 withdrawn-requires c κs = handed-sound (c .before .before .book-of .ensures) (c .enum-told .given .1)
 
-answered-requires : tie.Need-answered-requires
-answered-requires c κs = search needs
+handed-back-requires : tie.Need-handed-back-requires
+handed-back-requires c κs =
+    let told = c .before .before in
+    let handed = told .before .before .book-of .ensures in
+    let done = told .enum-told .given .1 in
+    λ e. changed-sound _ (Change.withdraw _) _ (handed-sound handed done) (handed-places handed done) (c .before .withdrawn .ensures)
+
+written-requires : tie.Need-written-requires
+written-requires c κs = search needs
 
 enum-known-makes : tie.Need-enum-known-makes
 enum-known-makes c = search needs
@@ -22,10 +31,15 @@ enum-known-makes c = search needs
 refused-requires : tie.Need-refused-requires
 refused-requires c κs = search needs
 
+same-length : tie.Need-same-length
+same-length c = search needs
+
 returns : tie.Need-returns
 returns c =
-    let told = c .before .before in
-    over-handed (told .before .before .book-of .ensures) (told .enum-told .given .1) (c .before .withdrawn .result, c .before .withdrawn .ensures, c .answered .ensures)
+    let back = c .before .before .before in
+    let change = back .before .before in
+    let told = change .before in
+    over-handed (told .before .before .book-of .ensures) (told .enum-told .given .1) (back .handed-back .result, back .handed-back .ensures _ _ _ (change .withdrawn .ensures), c .written .ensures)
 
 returns-2 : tie.Need-returns-2
 returns-2 c = over-refused (c .before .before .before .before .book-of .ensures) (c .before .before .makes .given .1) (c .refused .ensures)
@@ -37,8 +51,10 @@ tabashfar-withdraw-spec =
     book-of-requires
     enum-told
     withdrawn-requires
-    answered-requires
+    handed-back-requires
+    written-requires
     enum-known-makes
     refused-requires
+    same-length
     returns
     returns-2)

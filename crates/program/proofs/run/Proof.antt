@@ -2,7 +2,7 @@
 use mathlib.Core.Path.{sym}
 use borrow.Author.Needs.{needs}
 use lib.Seq.{length-take-le}
-use Rattle.input.proofs.Promises.{front-written, nothing-written}
+use Rattle.input.proofs.Promises.{front-text-written, no-text-written}
 use Rattle.program.proofs.run.Statement.{statement}
 use Rattle.program.proofs.run.Tie as tie
 
@@ -28,10 +28,10 @@ returns : tie.Need-returns
 returns c =
     let a = c .before .before .before .before .before .before .before .before .before .before in
     let read = c .before .before .before .before .before .before .input .given in
-    front-written (read .1) (a .pre .0) (c .before .before .run-sheet .ensures)
+    front-text-written (read .1) (a .pre .0) (c .before .before .run-sheet .ensures)
 
 returns-2 : tie.Need-returns-2
-returns-2 c = nothing-written (c .enum-told .given .1)
+returns-2 c = no-text-written (c .enum-told .given .1)
 
 pub run-spec : {M : Type 1} → statement M
 run-spec =

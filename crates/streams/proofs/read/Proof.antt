@@ -1,8 +1,11 @@
--- Each turn brings at least one byte, and no more than there is room for.
+-- Each turn brings at least one byte, and no more than there is room for. What the last read answered is judged by `input_at`.
 use mathlib.Core.Path.{_≡_}
 use Prim.Native.Nat.{_≤_, _-_}
 use borrow.Author.Needs.{needs}
 use lib.ListN.{length}
+use mir.Syntax.{w64}
+use mir.Val.{toZ, ofZ}
+use Rattle.streams.proofs.Signs.{within-at}
 use Rattle.streams.proofs.read.Statement.{statement}
 use Rattle.streams.proofs.read.Tie as tie
 
@@ -39,11 +42,17 @@ part-count-end c = search needs
 count-requires : tie.Need-count-requires Inv-loop μ-loop
 count-requires c κs = search needs
 
+input-at-requires : tie.Need-input-at-requires Inv-loop μ-loop
+input-at-requires c κs = search needs
+
 same-length : tie.Need-same-length Inv-loop μ-loop
 same-length c = search needs
 
 returns : tie.Need-returns Inv-loop μ-loop
-returns c = search needs
+returns c =
+    let v = c .before .before .before .before .before .before .before .before .before .before .loop in
+    let answer = c .before .before .before .before .before .before .before .read .result in
+    within-at (v .bytes) (toZ w64 (ofZ w64 answer)) (c .input-at .ensures) (search needs)
 
 add-bytes : tie.Need-add-bytes Inv-loop μ-loop
 add-bytes c = search needs
@@ -75,6 +84,7 @@ read-spec =
     part-count-start
     part-count-end
     count-requires
+    input-at-requires
     same-length
     returns
     add-bytes

@@ -1,5 +1,4 @@
 -- A digit, and one more for each power of ten that the number reaches.
-use native.Mathlib.Omega.{arith}
 use borrow.Author.Needs.{needs}
 use Rattle.words.proofs.LastDigits.{digits-counted}
 use Rattle.words.proofs.digits.Statement.{statement}

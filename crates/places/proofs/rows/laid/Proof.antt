@@ -7,7 +7,7 @@ use borrow.Author.Needs.{needs}
 use lib.ListN.{length, take, drop}
 use Rattle.standing.specs.Rising.{filler}
 use Rattle.actions.specs.Rows.{rows}
-use Rattle.actions.proofs.Listings.{one-row-more}
+use Rattle.actions.proofs.Listings.{length-filing, one-row-more}
 use Rattle.places.proofs.rows.laid.Statement.{statement}
 use Rattle.places.proofs.rows.laid.Tie as tie
 
@@ -34,6 +34,9 @@ filing-requires c κs = search needs
 mul-lay : tie.Need-mul-lay Inv-loop μ-loop
 mul-lay c = search needs
 
+slice-aggregate-lay : tie.Need-slice-aggregate-lay Inv-loop μ-loop
+slice-aggregate-lay c = search needs
+
 lay-requires : tie.Need-lay-requires Inv-loop μ-loop
 lay-requires c κs = search needs
 
@@ -45,13 +48,14 @@ loop-less c = search needs
 
 loop-again : tie.Need-loop-again Inv-loop μ-loop
 loop-again c =
-    let a = c .before .before .before .before .before .before .before .before .before .args in
-    let v = c .before .before .before .before .before .before .before .loop in
-    let l = c .before .before .lay in (
+    let lay = c .before .before .lay in
+    let row = c .before .before .before .before .before .filing in
+    let a = c .before .before .before .before .before .before .before .before .before .before .args in
+    let v = c .before .before .before .before .before .before .before .before .loop in (
       omega arith,
       v .inv .1,
-      l .ensures ∙ rw (c .before .before .before .before .filing .ensures, v .inv .2) (one-row-more (a .t1) (v .i) filler (a .memory .now) (omega arith)),
-      l .kept .0 ∙ v .inv .3,
+      lay .ensures ∙ rw (row .ensures, length-filing, v .inv .2) (one-row-more (a .t1) (v .i) filler (a .memory .now) (omega arith)),
+      lay .kept .0 ∙ v .inv .3,
     )
 
 same-length : tie.Need-same-length Inv-loop μ-loop
@@ -73,6 +77,7 @@ laid-spec =
     array-copy-out-x
     filing-requires
     mul-lay
+    slice-aggregate-lay
     lay-requires
     add-i
     loop-less

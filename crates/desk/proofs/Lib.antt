@@ -1,2 +1,0 @@
--- what a number below zero means to the program
-pub mod Signs

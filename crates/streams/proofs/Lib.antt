@@ -1,0 +1,2 @@
+-- what a number below zero means to a program
+pub mod Signs
