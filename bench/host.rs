@@ -29,25 +29,11 @@ fn proved(sheet: &[u8], pairs: &[u16], answers: &mut [u64]) {
     face::routes(sheet, pairs, answers).expect("there is an answer's room for each pair");
 }
 
-fn word(bytes: &[u8]) -> u16 {
-    u16::from_be_bytes([bytes[0], bytes[1]])
-}
-
 /// The plain router, over the ten-byte rows of the same sheet.
 fn plain(sheet: &[u8], pairs: &[u16], answers: &mut [u64]) {
-    let notices: Vec<plain::Target> = sheet[8..]
-        .chunks_exact(10)
-        .map(|r| match r[3] {
-            1 => plain::Target::Links { stage: r[4], switch: word(&r[5..]), set: r[9] },
-            2 => plain::Target::Switch { column: r[4], switch: word(&r[5..]) },
-            _ => plain::Target::Pattern { stage: r[4], value: word(&r[5..]), mask: word(&r[7..]), set: r[9] },
-        })
-        .collect();
+    let book = plain::book(N, &sheet[8..]);
     for (pair, answer) in pairs.chunks_exact(2).zip(answers) {
-        *answer = match plain::route(N, &notices, pair[0].into(), pair[1].into()) {
-            plain::Answer::Tag(tag) => u64::from(tag) << 8,
-            plain::Answer::None(stage) => 11 | u64::from(stage) << 8,
-        };
+        *answer = plain::route(N, book.standing(), pair[0].into(), pair[1].into()).packed();
     }
 }
 

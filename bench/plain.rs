@@ -1,10 +1,12 @@
-//! A router in plain Rust, written for speed from document 01 alone and sharing nothing with the proved one. As the proved
+//! A router in plain Rust, written for speed from documents 01 and 02 (§2) alone and sharing nothing with the proved one. As the proved
 //! router does, it answers each question from the list of notices and keeps nothing between two questions. `route` tests no book, `judged`
 //! first tests the one that it is given, as 01's number 16 asks.
 //!
 //! The switches of column i that can lie on a path from s to d agree with d in their low i bits, and lie less than 2^i away
 //! from s on either side. There are two: the bit i of one is right, and it goes straight; the other one forks. So a notice is
 //! held against two labels, and most notices touch neither.
+//!
+//! Where no path is clear the notices are gone through once more, by rising number: the first that stops a way onward is named.
 
 #[derive(Clone, Copy)]
 pub enum Target {
@@ -16,7 +18,24 @@ pub enum Target {
 #[derive(Clone, Copy, PartialEq, Eq, Debug)]
 pub enum Answer {
     Tag(u32),
-    None(u32),
+    None { stage: u32, by: u16 },
+}
+
+impl Answer {
+    /// As include/tabashfar.h says.
+    pub fn packed(self) -> u64 {
+        match self {
+            Answer::Tag(tag) => u64::from(tag) << 8,
+            Answer::None { stage, by } => 11 | u64::from(stage) << 8 | u64::from(by) << 16,
+        }
+    }
+}
+
+/// The notices that stand, by rising number.
+#[derive(Clone, Copy)]
+pub struct Standing<'a> {
+    pub numbers: &'a [u16],
+    pub targets: &'a [Target],
 }
 
 /// A walk is the states it has used, the first of them highest; of two walks the lesser comes first. From this number on it
@@ -46,16 +65,21 @@ struct Columns {
 impl Columns {
     #[inline(always)]
     fn new(n: u32, source: u16, distance: u16) -> Columns {
-        let all = ((1u32 << n) - 1) as u16;
         let mut columns = Columns { straight: [0; 16], fork: [0; 16] };
         for i in 0..16 {
-            let high = source.wrapping_add(distance & ((1 << i) - 1));
-            let bit = distance & (1 << i);
-            columns.straight[i] = high.wrapping_sub(bit) & all;
-            columns.fork[i] = high.wrapping_add(bit).wrapping_sub(1 << i) & all;
+            (columns.straight[i], columns.fork[i]) = switches(n, source, distance, i);
         }
         columns
     }
+}
+
+/// The two switches of column i: the one that goes straight, and the one that forks.
+#[inline(always)]
+fn switches(n: u32, source: u16, distance: u16, i: usize) -> (u16, u16) {
+    let all = ((1u32 << n) - 1) as u16;
+    let high = source.wrapping_add(distance & ((1 << i) - 1));
+    let bit = distance & (1 << i);
+    (high.wrapping_sub(bit) & all, high.wrapping_add(bit).wrapping_sub(1 << i) & all)
 }
 
 /// Four bits a column for each of its two switches: the set of its links that are stopped, and CLOSED.
@@ -108,33 +132,131 @@ fn lost(set: u64, bit: u32) -> u32 {
     (set >> bit & 1) as u32 * LOST
 }
 
-pub fn route(n: u32, notices: &[Target], source: u32, destination: u32) -> Answer {
-    let mut distance = destination.wrapping_sub(source);
-    let Marks { straight: mut right, fork: mut wrong } = Marks::new(notices, &Columns::new(n, source as u16, distance as u16));
-    let (mut straight, mut fork) = if distance & 1 == 0 { (0, LOST) } else { (LOST, 0) };
-    let mut digits = destination;
+/// The walks that arrive at the two switches of a column, and what is left of the question from there on.
+#[derive(Clone, Copy)]
+struct Walks {
+    straight: u32,
+    fork: u32,
+    distance: u32,
+    digits: u32,
+    right: u64,
+    wrong: u64,
+}
+
+impl Walks {
+    #[inline(always)]
+    fn new(n: u32, targets: &[Target], source: u32, destination: u32) -> Walks {
+        let distance = destination.wrapping_sub(source);
+        let marks = Marks::new(targets, &Columns::new(n, source as u16, distance as u16));
+        let (straight, fork) = if distance & 1 == 0 { (0, LOST) } else { (LOST, 0) };
+        Walks { straight, fork, distance, digits: destination, right: marks.straight, wrong: marks.fork }
+    }
+
+    /// Crosses a stage.
+    #[inline(always)]
+    fn cross(&mut self) {
+        // One of plus and minus leads from the fork to where the other switch's straight link leads, the other one away.
+        let (plus, minus) = (lost(self.wrong, 1), lost(self.wrong, 2));
+        let (near, far) = if self.distance & 1 == 0 { (plus, minus) } else { (minus, plus) };
+        let state = (self.digits ^ self.distance) & 1;
+        let met = (self.straight * 2 + lost(self.right, 0)).min(self.fork * 2 + (state ^ 1) + near);
+        let away = self.fork * 2 + state + far;
+        // which of the next column's two switches they lead to
+        let turned = ((self.distance ^ self.distance >> 1) & 1).wrapping_neg() & (met ^ away);
+        self.distance >>= 1;
+        self.digits >>= 1;
+        self.right >>= 4;
+        self.wrong >>= 4;
+        self.straight = (met ^ turned) + lost(self.right, 3);
+        self.fork = (away ^ turned) + lost(self.wrong, 3);
+    }
+
+    #[inline(always)]
+    fn first(&self) -> u32 {
+        self.straight.min(self.fork)
+    }
+}
+
+pub fn route(n: u32, standing: Standing, source: u32, destination: u32) -> Answer {
+    let mut walks = Walks::new(n, standing.targets, source, destination);
+    let begun = walks;
     let mut crossed = 0;
     for _ in 0..n {
-        // One of plus and minus leads from the fork to where the other switch's straight link leads, the other one away.
-        let (near, far) = if distance & 1 == 0 { (lost(wrong, 1), lost(wrong, 2)) } else { (lost(wrong, 2), lost(wrong, 1)) };
-        let state = (digits ^ distance) & 1;
-        let met = (straight * 2 + lost(right, 0)).min(fork * 2 + (state ^ 1) + near);
-        let away = fork * 2 + state + far;
-        // which of the next column's two switches they lead to
-        let turned = ((distance ^ distance >> 1) & 1).wrapping_neg() & (met ^ away);
-        distance >>= 1;
-        digits >>= 1;
-        right >>= 4;
-        wrong >>= 4;
-        straight = (met ^ turned) + lost(right, 3);
-        fork = (away ^ turned) + lost(wrong, 3);
-        crossed += (straight.min(fork) < LOST) as u32;
+        walks.cross();
+        crossed += (walks.first() < LOST) as u32;
     }
     if crossed < n {
-        return Answer::None(crossed);
+        return none(n, standing, source, begun, crossed);
     }
-    let states = straight.min(fork).reverse_bits() >> (32 - n);
+    let states = walks.first().reverse_bits() >> (32 - n);
     Answer::Tag(destination | states << n)
+}
+
+/// No clear walk crosses this stage.
+#[cold]
+#[inline(never)]
+fn none(n: u32, standing: Standing, source: u32, mut walks: Walks, stage: u32) -> Answer {
+    let distance = walks.distance as u16;
+    for _ in 0..stage {
+        walks.cross();
+    }
+    let ways = Ways::new(n, source as u16, distance, stage, &walks);
+    Answer::None { stage, by: ways.lowest(standing) }
+}
+
+/// The ways onward at a stage that no clear walk crosses: out of those of its two switches that a clear walk reaches.
+struct Ways {
+    stage: u8,
+    straight: Option<u16>,
+    fork: Option<u16>,
+    /// where they lead
+    ends: [Option<u16>; 2],
+}
+
+impl Ways {
+    /// The walks are those that arrive at the stage.
+    #[inline(always)]
+    fn new(n: u32, source: u16, distance: u16, stage: u32, walks: &Walks) -> Ways {
+        let (straight, fork) = switches(n, source, distance, stage as usize);
+        let straight = (walks.straight < LOST).then_some(straight);
+        let fork = (walks.fork < LOST).then_some(fork);
+        // a fork leads to both switches of the next column
+        let (one, other) = switches(n, source, distance, stage as usize + 1);
+        let ends = if fork.is_some() { [Some(one), Some(other)] } else { [straight; 2] };
+        Ways { stage: stage as u8, straight, fork, ends }
+    }
+
+    /// Whether a notice stops one of them that has this set and names these switches.
+    #[inline(always)]
+    fn stopped(&self, set: u8, named: impl Fn(u16) -> bool) -> bool {
+        set & 1 != 0 && self.straight.is_some_and(&named) || set & 6 != 0 && self.fork.is_some_and(&named)
+    }
+
+    #[inline(always)]
+    fn stopped_by(&self, target: Target) -> bool {
+        match target {
+            Target::Links { switch, set, .. } => self.stopped(set, |label| label == switch),
+            Target::Switch { switch, .. } => self.ends.contains(&Some(switch)),
+            Target::Pattern { value, mask, set, .. } => self.stopped(set, |label| label & mask == value),
+        }
+    }
+
+    /// The lowest number that stops one of them. Few notices are of the stage, so that is looked at first.
+    #[inline(always)]
+    fn lowest(&self, standing: Standing) -> u16 {
+        let mut notices = standing.numbers.iter().zip(standing.targets);
+        let first = notices.find(|(_, &target)| stage_of(target) == self.stage && self.stopped_by(target));
+        *first.expect("every way onward is stopped").0
+    }
+}
+
+/// The stage whose links the target names; no stage for column 0.
+#[inline(always)]
+fn stage_of(target: Target) -> u8 {
+    match target {
+        Target::Links { stage, .. } | Target::Pattern { stage, .. } => stage,
+        Target::Switch { column, .. } => column.wrapping_sub(1),
+    }
 }
 
 /// The proved book's contents: the notices that stand come first, by rising number, and every other place holds nothing.
@@ -178,10 +300,36 @@ fn unsound(book: &Book) -> bool {
     bad
 }
 
+impl Book {
+    pub fn standing(&self) -> Standing<'_> {
+        Standing { numbers: &self.numbers[..self.count], targets: &self.targets[..self.count] }
+    }
+}
+
 /// None where the book is refused.
 pub fn judged(book: &Book, source: u32, destination: u32) -> Option<Answer> {
     if unsound(book) {
         return None;
     }
-    Some(route(book.n, &book.targets[..book.count], source, destination))
+    Some(route(book.n, book.standing(), source, destination))
+}
+
+/// The book of filing actions, ten bytes each, that are all accepted.
+pub fn book(n: u32, rows: &[u8]) -> Book {
+    let word = |bytes: &[u8]| u16::from_be_bytes([bytes[0], bytes[1]]);
+    let mut notices: Vec<(u16, Target)> = rows
+        .chunks_exact(10)
+        .map(|r| {
+            let target = match r[3] {
+                1 => Target::Links { stage: r[4], switch: word(&r[5..]), set: r[9] },
+                2 => Target::Switch { column: r[4], switch: word(&r[5..]) },
+                _ => Target::Pattern { stage: r[4], value: word(&r[5..]), mask: word(&r[7..]), set: r[9] },
+            };
+            (word(&r[1..]), target)
+        })
+        .collect();
+    notices.sort_by_key(|x| x.0);
+    let count = notices.len();
+    notices.resize(PLACES, (0, NOTHING));
+    Book { n, numbers: notices.iter().map(|x| x.0).collect(), targets: notices.iter().map(|x| x.1).collect(), count }
 }

@@ -1,9 +1,10 @@
 //! A runner of sheets in plain Rust, written for speed. It shares no code with the proved one; its checks follow the definitions in
 //! specs/, so that it is a measure of cost and no second reading of document 01.
-use crate::plain::{route, Answer, Target};
+use crate::plain::{route, Answer, Standing, Target};
 
 const STANDING: usize = 48;
 
+/// By rising number.
 struct Book {
     n: u32,
     numbers: Vec<u16>,
@@ -15,6 +16,7 @@ fn word(high: u8, low: u8) -> u16 {
 }
 
 impl Book {
+    /// Why the target is refused, whatever stands.
     fn refusal(&self, number: u16, target: Target) -> Option<u8> {
         let size = 1u32 << self.n;
         let bad_set = |set: u8| set < 1 || set > 7;
@@ -30,32 +32,36 @@ impl Book {
             _ if outside => Some(4),
             _ if bad => Some(5),
             _ if wide => Some(6),
-            _ if self.numbers.contains(&number) => Some(7),
-            _ if self.numbers.len() == STANDING => Some(8),
             _ => None,
         }
     }
 
     fn file(&mut self, number: u16, target: Target) -> Option<u8> {
-        let refusal = self.refusal(number, target);
-        if refusal.is_none() {
-            self.numbers.push(number);
-            self.targets.push(target);
+        if let Some(refusal) = self.refusal(number, target) {
+            return Some(refusal);
         }
-        refusal
+        match self.numbers.binary_search(&number) {
+            Ok(_) => Some(7),
+            Err(_) if self.numbers.len() == STANDING => Some(8),
+            Err(place) => {
+                self.numbers.insert(place, number);
+                self.targets.insert(place, target);
+                None
+            }
+        }
     }
 
     fn withdraw(&mut self, number: u16) -> Option<u8> {
         if number == 0 {
             return Some(3);
         }
-        match self.numbers.iter().position(|&x| x == number) {
-            Some(k) => {
-                self.numbers.swap_remove(k);
-                self.targets.swap_remove(k);
+        match self.numbers.binary_search(&number) {
+            Ok(place) => {
+                self.numbers.remove(place);
+                self.targets.remove(place);
                 None
             }
-            None => Some(9),
+            Err(_) => Some(9),
         }
     }
 }
@@ -169,11 +175,14 @@ fn route_line(book: &Book, source: u16, destination: u16, text: &mut Text) {
     if source >> book.n != 0 || destination >> book.n != 0 {
         return text.refused(10);
     }
-    match route(book.n, &book.targets, source as u32, destination as u32) {
+    let standing = Standing { numbers: &book.numbers, targets: &book.targets };
+    match route(book.n, standing, source as u32, destination as u32) {
         Answer::Tag(tag) => text.tag(book.n, tag),
-        Answer::None(stage) => {
+        Answer::None { stage, by } => {
             text.say(b" NONE ");
             text.number(stage as u16);
+            text.say(b" BY ");
+            text.number(by);
             text.say(b"\n");
         }
     }

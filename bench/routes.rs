@@ -38,46 +38,21 @@ fn proved_path(sheet: &[u8], pairs: &[u16], answers: &mut [u64]) {
     assert_eq!(number, 0, "there is an answer's room for each pair");
 }
 
-fn word(bytes: &[u8]) -> u16 {
-    u16::from_be_bytes([bytes[0], bytes[1]])
-}
-
-/// The plain router's book, from the ten-byte rows of the same sheet.
-fn book(sheet: &[u8]) -> plain::Book {
-    let mut notices: Vec<(u16, plain::Target)> = sheet[8..]
-        .chunks_exact(10)
-        .map(|r| {
-            let target = match r[3] {
-                1 => plain::Target::Links { stage: r[4], switch: word(&r[5..]), set: r[9] },
-                2 => plain::Target::Switch { column: r[4], switch: word(&r[5..]) },
-                _ => plain::Target::Pattern { stage: r[4], value: word(&r[5..]), mask: word(&r[7..]), set: r[9] },
-            };
-            (word(&r[1..]), target)
-        })
-        .collect();
-    notices.sort_by_key(|x| x.0);
-    let count = notices.len();
-    notices.resize(plain::PLACES, (0, plain::NOTHING));
-    plain::Book { n: N, numbers: notices.iter().map(|x| x.0).collect(), targets: notices.iter().map(|x| x.1).collect(), count }
-}
-
+/// The plain router, over the ten-byte rows of the same sheet.
 fn answered(pairs: &[u16], answers: &mut [u64], route: impl Fn(u32, u32) -> plain::Answer) {
     for (pair, answer) in pairs.chunks_exact(2).zip(answers) {
-        *answer = match route(pair[0].into(), pair[1].into()) {
-            plain::Answer::Tag(tag) => u64::from(tag) << 8,
-            plain::Answer::None(stage) => 11 | u64::from(stage) << 8,
-        };
+        *answer = route(pair[0].into(), pair[1].into()).packed();
     }
 }
 
 fn plain_entry(sheet: &[u8], pairs: &[u16], answers: &mut [u64]) {
-    let book = book(sheet);
+    let book = plain::book(N, &sheet[8..]);
     answered(pairs, answers, |s, d| plain::judged(black_box(&book), s, d).expect("the book is sound"));
 }
 
 fn plain_path(sheet: &[u8], pairs: &[u16], answers: &mut [u64]) {
-    let book = book(sheet);
-    answered(pairs, answers, |s, d| plain::route(N, &book.targets[..book.count], s, d));
+    let book = plain::book(N, &sheet[8..]);
+    answered(pairs, answers, |s, d| plain::route(N, book.standing(), s, d));
 }
 
 /// Asks both sides and answers whether they agree.

@@ -1,4 +1,4 @@
-/* Tabashfar for C: the entries of document 01, and of document 02's §1, over numbers and byte slices.
+/* Tabashfar for C: the entries of document 01, and of document 02's §1 and §2, over numbers and byte slices.
  *
  * A slice is two arguments, where its bytes start and how many there are. The bytes of a `const` slice are only read. Of lent memory
  * (`memory`, `answers`) exactly what is said at the function is written, and nothing where the call is refused. A slice may be empty; its pointer
@@ -13,7 +13,9 @@
  * value that comes with it, 0 where the line below names none:
  *
  *     tabashfar_number(answer)   0, or the table's number
- *     tabashfar_value(answer)    the value; at number 11 the stage
+ *     tabashfar_value(answer)    the value; at number 11 the stage in its low byte, and from its bit 8 on the number of a notice:
+ *     tabashfar_stage(answer)    at number 11 the stage, otherwise without meaning
+ *     tabashfar_notice(answer)   at number 11 the number of the notice, 1 to 65535, otherwise without meaning
  *
  * A BOOK is held by the host, as a sheet: the sheet's filings and withdrawals are made one after the other from an empty book of its size, the
  * accepted as well as the refused; its routes and layout faults are passed over. Any sheet will do. One whose header is refused gives
@@ -47,9 +49,13 @@
  *         uint64_t tag = tabashfar_route(memory[at], length, 1, 0);
  *         unsigned withdrawn = changed(tabashfar_withdraw(memory[at], length, 7, memory[!at], TABASHFAR_BOOK));
  *         uint64_t listed = tabashfar_listing(memory[at], length, memory[!at], TABASHFAR_BOOK);
- *         assert(opened == 0 && filed == 0 && also == 0 && withdrawn == 0);
+ *         unsigned last = changed(tabashfar_file_switch(memory[at], length, 10, 1, 2, memory[!at], TABASHFAR_BOOK));
+ *         uint64_t none = tabashfar_route(memory[at], length, 1, 0);
+ *         assert(opened == 0 && filed == 0 && also == 0 && withdrawn == 0 && last == 0);
  *         assert(twice == 7); // 7 stood already: nothing was written
  *         assert(tabashfar_value(tag) == 8 && tabashfar_value(listed) == 1);
+ *         // no clear path: 8 and 10 stop the ways onward at stage 0, and 8 is the lowest
+ *         assert(tabashfar_number(none) == 11 && tabashfar_stage(none) == 0 && tabashfar_notice(none) == 8);
  *     }
  *
  * What lies in memory[at] is a sheet: it can be kept in a file, sent to another card, or run by the desk.
@@ -66,6 +72,8 @@ extern "C" {
 
 static inline uint8_t tabashfar_number(uint64_t answer) { return (uint8_t)(answer & 255); }
 static inline uint64_t tabashfar_value(uint64_t answer) { return answer >> 8; }
+static inline uint8_t tabashfar_stage(uint64_t answer) { return (uint8_t)(answer >> 8 & 255); }
+static inline uint16_t tabashfar_notice(uint64_t answer) { return (uint16_t)(answer >> 16 & 65535); }
 
 /* Tags and steps. n is the number of stages, 1 to 12. */
 
@@ -100,7 +108,7 @@ uint64_t tabashfar_withdraw(const uint8_t *sheet, size_t sheet_len, uint16_t num
 /* Refuses 13. Writes the sheet of the book as it is, which is the same for every sheet that makes this book. Value: its length. */
 uint64_t tabashfar_write(const uint8_t *sheet, size_t sheet_len, uint8_t *memory, size_t memory_len);
 
-/* Refuses 4, 12. Value: 0 clear, 1 stopped. */
+/* Refuses 4, 12. Value: 0 where the link is clear, otherwise the lowest number among the notices that stop it. */
 uint64_t tabashfar_link(const uint8_t *sheet, size_t sheet_len, uint8_t stage, uint16_t sw, uint8_t code);
 
 /* Refuses 13. Writes the standing notices by rising number, ten bytes each as filing actions, at the front of the memory. Value: how
@@ -109,7 +117,8 @@ uint64_t tabashfar_listing(const uint8_t *sheet, size_t sheet_len, uint8_t *memo
 
 /* Routes and walks. */
 
-/* Refuses 10, and 11 with the stage that no clear walk can cross. Value: the tag of the first clear path. */
+/* Refuses 10, and 11 with the stage that no clear walk can cross and a notice: the lowest number that stops any way onward toward the
+ * destination from a switch that a clear walk reaches at that stage. Value: the tag of the first clear path. */
 uint64_t tabashfar_route(const uint8_t *sheet, size_t sheet_len, uint16_t source, uint16_t destination);
 
 /* Routes for many pairs over one book, which is made once. A pair is two numbers of `pairs`, a source and its destination. Refuses 13 where
@@ -119,7 +128,8 @@ uint64_t tabashfar_route(const uint8_t *sheet, size_t sheet_len, uint16_t source
 uint64_t tabashfar_routes(const uint8_t *sheet, size_t sheet_len, const uint16_t *pairs, size_t pairs_len, uint64_t *answers,
                           size_t answers_len);
 
-/* Refuses 10, 12, and 11 with the first stage whose link is stopped. 0: the walk is clear. */
+/* Refuses 10, 12, and 11 with the first stage whose link is stopped and a notice: the lowest number that stops this link. 0: the walk is
+ * clear. */
 uint64_t tabashfar_walk(const uint8_t *sheet, size_t sheet_len, uint16_t source, uint32_t tag);
 
 /* Sheets. */

@@ -1,6 +1,6 @@
-//! Tabashfar for Rust: the entries of document 01, and of document 02's §1, over slices, safe to call, as a module of a program of edition
-//! 2018 or later. The static library of the crate `face` is linked beside it; tabashfar.h says what each entry writes and answers, and
-//! what linking needs.
+//! Tabashfar for Rust: the entries of document 01, and of document 02's §1 and §2, over slices, safe to call, as a module of a program of
+//! edition 2018 or later. The static library of the crate `face` is linked beside it; tabashfar.h says what each entry writes and answers,
+//! and what linking needs.
 //!
 //! A book is held by the program, as a sheet. A change writes the sheet of the book after it into lent memory and hands it back as
 //! a part of that memory. The whole life of a book, with two memories in turn; trials/hosts compiles and runs this text:
@@ -17,8 +17,12 @@
 //!     let tag = tabashfar::route(book, 1, 0)?;
 //!     let book = tabashfar::withdraw(book, 7, &mut two)?;
 //!     let listed = tabashfar::listing(book, &mut one)?;
+//!     let book = tabashfar::file_switch(book, 10, 1, 2, &mut one)?;
+//!     let none = tabashfar::route(book, 1, 0).unwrap_err();
 //!     assert_eq!(twice.number, 7); // 7 stood already: nothing was written, and the book was still in `one`
 //!     assert_eq!((tag, listed), (8, 1));
+//!     // no clear path: 8 and 10 stop the ways onward at stage 0, and 8 is the lowest
+//!     assert_eq!((none.number, none.stage, none.notice), (11, 0, 8));
 //!     Ok(()) // the book is closed by doing nothing more
 //! }
 //! ```
@@ -59,18 +63,19 @@ mod raw {
     }
 }
 
-/// A number of document 01's table; at 11 the stage comes with it.
+/// A number of document 01's table. At 11 the stage comes with it and the number of a notice; otherwise both are 0.
 #[derive(Clone, Copy, PartialEq, Eq, Debug)]
 pub struct Refused {
     pub number: u8,
     pub stage: u8,
+    pub notice: u16,
 }
 
 /// The value of an accepted call, or the refusal.
 fn unpacked(answer: u64) -> Result<u64, Refused> {
     match (answer & 255) as u8 {
         0 => Ok(answer >> 8),
-        number => Err(Refused { number, stage: (answer >> 8) as u8 }),
+        number => Err(Refused { number, stage: (answer >> 8) as u8, notice: (answer >> 16) as u16 }),
     }
 }
 
@@ -132,9 +137,10 @@ pub fn write<'a>(sheet: &[u8], memory: &'a mut [u8]) -> Result<&'a [u8], Refused
     handed_back(answer, memory)
 }
 
-/// Whether the link is stopped.
-pub fn link(sheet: &[u8], stage: u8, switch: u16, code: u8) -> Result<bool, Refused> {
-    unpacked(unsafe { raw::tabashfar_link(sheet.as_ptr(), sheet.len(), stage, switch, code) }).map(|stopped| stopped == 1)
+/// The lowest number among the notices that stop the link; `None` where it is clear.
+pub fn link(sheet: &[u8], stage: u8, switch: u16, code: u8) -> Result<Option<u16>, Refused> {
+    let answer = unsafe { raw::tabashfar_link(sheet.as_ptr(), sheet.len(), stage, switch, code) };
+    unpacked(answer).map(|lowest| if lowest == 0 { None } else { Some(lowest as u16) })
 }
 
 /// How many notices stand; their filing actions lie at the front of the memory.
@@ -143,6 +149,7 @@ pub fn listing(sheet: &[u8], memory: &mut [u8]) -> Result<usize, Refused> {
     unpacked(answer).map(|count| count as usize)
 }
 
+/// The tag of the first clear path. Where there is none, the notice is the lowest that stops any way onward at the stage named.
 pub fn route(sheet: &[u8], source: u16, destination: u16) -> Result<u32, Refused> {
     unpacked(unsafe { raw::tabashfar_route(sheet.as_ptr(), sheet.len(), source, destination) }).map(|tag| tag as u32)
 }
@@ -161,6 +168,7 @@ pub fn answer(written: u64) -> Result<u32, Refused> {
     unpacked(written).map(|tag| tag as u32)
 }
 
+/// Whether the walk is clear. Where it is not, the notice is the lowest that stops its first stopped link.
 pub fn walk(sheet: &[u8], source: u16, tag: u32) -> Result<(), Refused> {
     unpacked(unsafe { raw::tabashfar_walk(sheet.as_ptr(), sheet.len(), source, tag) }).map(|_| ())
 }

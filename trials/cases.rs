@@ -151,6 +151,46 @@ pub fn smallest_fabrics(compared: &mut Compared) {
     }
 }
 
+/// The same stopped sets with a notice for each link: at n = 1 with their numbers in every order, at n = 2 in one order or another.
+pub fn orders_of_numbers(compared: &mut Compared) {
+    let one = links(1);
+    for stopped in 0..1u32 << one.len() {
+        let set: Vec<_> = one.iter().enumerate().filter(|(k, _)| stopped >> k & 1 == 1).map(|(_, &l)| l).collect();
+        orders(set.len() as u16).iter().for_each(|numbers| every_question(compared, 1, &one_by_one(&set, numbers), true));
+    }
+    let (two, three) = (links(2), orders(3));
+    for a in 0..two.len() {
+        for b in 0..a {
+            for c in 0..b {
+                let numbers = &three[(a + b + c) % three.len()];
+                every_pair(compared, 2, &one_by_one(&[two[a], two[b], two[c]], numbers));
+            }
+        }
+    }
+}
+
+/// The numbers from 1 to so many, in every order.
+fn orders(count: u16) -> Vec<Vec<u16>> {
+    if count == 0 {
+        return vec![Vec::new()];
+    }
+    let mut all = Vec::new();
+    for order in orders(count - 1) {
+        for place in 0..=order.len() {
+            let mut longer = order.clone();
+            longer.insert(place, count);
+            all.push(longer);
+        }
+    }
+    all
+}
+
+/// A notice for each link, with these numbers.
+fn one_by_one(links: &[(u8, u16, u8)], numbers: &[u16]) -> Vec<Row> {
+    let notices = links.iter().zip(numbers);
+    notices.map(|(&(stage, switch, code), &number)| filing(Notice { number, target: Target::Links { stage, switch, set: 1 << code } })).collect()
+}
+
 fn every_tag(compared: &mut Compared, n: u8) {
     for source in 0..=1u16 << n {
         for tag in 0..=1u32 << (2 * n) {
@@ -177,12 +217,18 @@ fn stopping(links: &[(u8, u16, u8)]) -> Vec<Row> {
     rows.map(|(k, (&(stage, switch), &set))| filing(Notice { number: k as u16 + 1, target: Target::Links { stage, switch, set } })).collect()
 }
 
-/// All pairs over one stopped set, and all tags and links where they are asked for.
+/// All pairs over one stopped set, in one call.
+fn every_pair(compared: &mut Compared, n: u8, rows: &[Row]) {
+    let sheet = sheet_of(n, rows);
+    let pairs: Vec<u16> = (0..=1u16 << n).flat_map(|s| (0..=1u16 << n).flat_map(move |d| [s, d])).collect();
+    routes(compared, &sheet, &book_of(&sheet), &pairs, pairs.len() / 2);
+}
+
+/// All pairs over one stopped set, in one call and each in its own, and all tags and links where they are asked for.
 fn every_question(compared: &mut Compared, n: u8, rows: &[Row], tags: bool) {
+    every_pair(compared, n, rows);
     let sheet = sheet_of(n, rows);
     let book = book_of(&sheet);
-    let pairs: Vec<u16> = (0..=1u16 << n).flat_map(|s| (0..=1u16 << n).flat_map(move |d| [s, d])).collect();
-    routes(compared, &sheet, &book, &pairs, pairs.len() / 2);
     for source in 0..1u16 << n {
         for destination in 0..1u16 << n {
             route(compared, &sheet, &book, source, destination);

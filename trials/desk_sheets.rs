@@ -53,6 +53,7 @@ fn bytes(title: &str, sheet: Vec<u8>) -> Told {
 
 pub fn all() -> Vec<Told> {
     let mut all = vec![example(), filings(), full(), withdrawings(), routes(), faults()];
+    all.extend(notices_named());
     all.extend(counts());
     all.extend(lengths());
     all.extend(headers());
@@ -197,6 +198,141 @@ fn faults() -> Told {
             links(7, 0, 1, 4),
             withdraw(7),
             route(1, 0),
+        ],
+    )
+}
+
+/// Routes with no clear path, where several notices could be named.
+fn notices_named() -> Vec<Told> {
+    vec![overlap(), fork(), last_stage(), not_reached(), last_number()]
+}
+
+fn overlap() -> Told {
+    sheet(
+        "several notices name the one way onward: the lowest number, which was not filed first, and the next one where it is withdrawn",
+        3,
+        vec![
+            links(9, 1, 5, 1),
+            pattern(300, 1, 1, 3, 1),
+            switch(4, 2, 5),
+            links(6, 1, 5, 7),
+            links(1, 1, 5, 6),
+            links(2, 0, 4, 7),
+            links(3, 2, 5, 7),
+            route(5, 5),
+            withdraw(4),
+            route(5, 5),
+            withdraw(6),
+            route(5, 5),
+            withdraw(9),
+            route(5, 5),
+            withdraw(300),
+            route(5, 5),
+            withdraw(3),
+            route(5, 5),
+        ],
+    )
+}
+
+fn fork() -> Told {
+    sheet(
+        "the arms of a fork stopped by different notices: the lower of both, on the arm of state 0 and on that of state 1",
+        3,
+        vec![
+            links(20, 0, 1, 4),
+            links(30, 0, 1, 2),
+            route(1, 0),
+            switch(10, 1, 2),
+            route(1, 0),
+            switch(15, 1, 0),
+            route(1, 0),
+            withdraw(10),
+            route(1, 0),
+            withdraw(15),
+            route(1, 0),
+            withdraw(20),
+            links(20, 1, 2, 6),
+            route(1, 0),
+            links(40, 0, 1, 7),
+            links(50, 0, 0, 7),
+            route(1, 0),
+        ],
+    )
+}
+
+fn last_stage() -> Told {
+    sheet(
+        "the last stage: plus and minus of a fork, and the straight link of the other switch, each by its own notice",
+        3,
+        vec![
+            links(13, 2, 4, 4),
+            links(12, 2, 4, 2),
+            links(14, 2, 0, 1),
+            route(1, 0),
+            withdraw(12),
+            links(16, 2, 4, 2),
+            route(1, 0),
+            links(11, 2, 0, 1),
+            route(1, 0),
+            switch(5, 3, 0),
+            route(1, 0),
+            links(3, 2, 0, 6),
+            links(2, 2, 4, 1),
+            switch(1, 3, 4),
+            route(1, 0),
+            route(1, 4),
+        ],
+    )
+}
+
+fn not_reached() -> Told {
+    sheet(
+        "a lower number on a switch that no clear walk reaches, at another stage, or on a link that leads elsewhere: not named",
+        3,
+        vec![
+            links(50, 0, 1, 2),
+            links(60, 1, 0, 1),
+            links(5, 1, 2, 6),
+            route(1, 0),
+            links(1, 1, 0, 6),
+            links(2, 2, 0, 7),
+            links(3, 0, 0, 7),
+            route(1, 0),
+            withdraw(50),
+            route(1, 0),
+            links(4, 0, 1, 2),
+            route(1, 0),
+            withdraw(60),
+            withdraw(2),
+            route(1, 0),
+        ],
+    )
+}
+
+fn last_number() -> Told {
+    sheet(
+        "numbers of two bytes, up to 65535: the lowest as a number, and not by its low or its high byte",
+        12,
+        vec![
+            links(65535, 11, 4095, 1),
+            route(4095, 4095),
+            pattern(65280, 11, 4095, 4095, 1),
+            route(4095, 4095),
+            switch(511, 12, 4095),
+            route(4095, 4095),
+            links(512, 11, 4095, 7),
+            route(4095, 4095),
+            links(256, 11, 4095, 1),
+            route(4095, 4095),
+            links(255, 11, 4095, 1),
+            route(4095, 4095),
+            withdraw(255),
+            route(4095, 4095),
+            withdraw(256),
+            withdraw(511),
+            withdraw(512),
+            withdraw(65280),
+            route(4095, 4095),
         ],
     )
 }

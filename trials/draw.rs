@@ -1,12 +1,21 @@
 //! What the cases are drawn from. Good values are drawn most often; bad ones over the whole range of their type, those that are bad by one
 //! high bit alone among them.
 
-use crate::model::{Book, Notice, Target};
+use crate::model::{far_end, tag_to_steps, Book, Notice, Target};
 use crate::questions::Numbers;
 use crate::rows::{filing, question, withdrawal, Row};
 use std::collections::BTreeSet;
 
 pub struct Draw(pub Numbers);
+
+/// The link with this code of a switch at a stage, and where it leads.
+#[derive(Clone, Copy)]
+pub struct Link {
+    pub stage: u8,
+    pub switch: u16,
+    pub code: u8,
+    pub far_end: u16,
+}
 
 impl Draw {
     pub fn below(&mut self, bound: u32) -> u32 {
@@ -72,6 +81,25 @@ impl Draw {
         if self.one_in(12) { self.below(1 << 16) as u16 } else { self.below(61) as u16 }
     }
 
+    /// So many different numbers in no order: few and close, or any, with the least and the greatest among them, and some that differ in one
+    /// of their two bytes alone.
+    pub fn numbers(&mut self, count: usize) -> Vec<u16> {
+        let close = self.one_in(2);
+        let mut numbers = Vec::new();
+        while numbers.len() < count {
+            let number = match self.below(8) {
+                0 => [1, 255, 256, 257, 65535][self.below(5) as usize],
+                1 => 256 * self.below(8) as u16 + self.below(4) as u16,
+                _ if close => 1 + self.below(100) as u16,
+                _ => 1 + self.below(65535) as u16,
+            };
+            if number != 0 && !numbers.contains(&number) {
+                numbers.push(number);
+            }
+        }
+        numbers
+    }
+
     /// The number of a notice that stands, where one does.
     pub fn standing(&mut self, book: &Book) -> u16 {
         let notices = book.standing();
@@ -132,6 +160,36 @@ impl Draw {
             }
         };
         Notice { number, target }
+    }
+
+    /// A target that names this link, and perhaps others: the link's far end is given too.
+    pub fn naming(&mut self, n: u8, link: Link) -> Target {
+        let Link { stage, switch, code, far_end } = link;
+        let set = 1 << code | if self.one_in(3) { self.below(8) as u8 } else { 0 };
+        match self.below(if n == 1 { 2 } else { 3 }) {
+            0 => Target::Links { stage, switch, set },
+            1 => Target::Switch { column: stage + 1, switch: far_end },
+            _ => {
+                let mut mask = self.below(1 << n) as u16;
+                while mask.count_ones() < 2 {
+                    mask |= 1 << self.below(n.into());
+                }
+                Target::Pattern { stage, value: switch & mask, mask, set }
+            }
+        }
+    }
+
+    /// The link of this stage on a path of the undamaged fabric, any of those from source to destination.
+    pub fn link_between(&mut self, n: u8, source: u16, destination: u16, stage: u8) -> Link {
+        let tag = u32::from(destination) | self.below(1 << n) << n;
+        let mut steps = [0; 12];
+        tag_to_steps(n, source, tag, &mut steps);
+        let mut switch = source;
+        for i in 0..stage {
+            switch = far_end(n, i, switch, steps[usize::from(i)]);
+        }
+        let code = steps[usize::from(stage)];
+        Link { stage, switch, code, far_end: far_end(n, stage, switch, code) }
     }
 
     /// An action: a filing mostly, a withdrawal, a route, or bytes that are none of them.

@@ -1,12 +1,16 @@
-//! Every entry of document 01, once by the proved library and once by the model: what it answers, and each place of the memory lent to it.
+//! Every entry of documents 01 and 02, once by the proved library and once by the model: what it answers, and each place of the memory lent to
+//! it.
 
 use crate::compared::Compared;
 use crate::face::{self, Refused};
-use crate::model::{self, Action, Book, Notice, Target};
+use crate::model::{self, Action, Book, Notice, Stopped, Target};
 
-/// A refusal as the model gives it: the number, and at 11 the stage.
-fn told<T>(answer: Result<T, Refused>) -> Result<T, (u8, Option<u8>)> {
-    answer.map_err(|why| (why.number, if why.number == 11 { Some(why.stage) } else { None }))
+/// A refusal as the model gives it: the number, and at 11 the stage and the notice. With another number both have to be 0.
+fn told<T>(answer: Result<T, Refused>) -> Result<T, (u8, Option<Stopped>)> {
+    answer.map_err(|Refused { number, stage, notice }| {
+        let alone = number != 11 && stage == 0 && notice == 0;
+        (number, if alone { None } else { Some(Stopped { stage, notice }) })
+    })
 }
 
 pub fn number<T>(answer: Result<T, Refused>) -> Result<T, u8> {
@@ -33,7 +37,8 @@ pub fn steps(compared: &mut Compared, n: u8, source: u16, memory: &[u8]) {
     compared.same("steps to tag", number(face::steps_to_tag(n, source, memory)), model::steps_to_tag(n, source, memory), case);
 }
 
-pub fn route(compared: &mut Compared, sheet: &[u8], book: &Result<Book, u8>, source: u16, destination: u16) {
+/// A route; where no path is clear, what the model names.
+pub fn route(compared: &mut Compared, sheet: &[u8], book: &Result<Book, u8>, source: u16, destination: u16) -> Option<Stopped> {
     let plain = book.as_ref().map_err(|&k| (k, None)).and_then(|b| b.route(source, destination));
     let entry = match plain {
         Ok(_) => "route, a tag",
@@ -41,13 +46,15 @@ pub fn route(compared: &mut Compared, sheet: &[u8], book: &Result<Book, u8>, sou
         Err(_) => "route, refused",
     };
     compared.same(entry, told(face::route(sheet, source, destination)), plain, || format!("sheet {sheet:?} from {source} to {destination}"));
+    plain.err().and_then(|(_, stopped)| stopped)
 }
 
 /// What a route answers as one number, as include/tabashfar.h says.
-fn packed(answer: Result<u32, (u8, Option<u8>)>) -> u64 {
+fn packed(answer: Result<u32, (u8, Option<Stopped>)>) -> u64 {
     match answer {
         Ok(tag) => u64::from(tag) << 8,
-        Err((number, stage)) => u64::from(number) | u64::from(stage.unwrap_or(0)) << 8,
+        Err((number, None)) => u64::from(number),
+        Err((number, Some(Stopped { stage, notice }))) => u64::from(number) + 256 * (u64::from(stage) + 256 * u64::from(notice)),
     }
 }
 
@@ -66,13 +73,15 @@ pub fn routes(compared: &mut Compared, sheet: &[u8], book: &Result<Book, u8>, pa
 
 pub fn walk(compared: &mut Compared, sheet: &[u8], book: &Result<Book, u8>, source: u16, tag: u32) {
     let plain = book.as_ref().map_err(|&k| (k, None)).and_then(|b| b.walk(source, tag));
-    compared.same("walk", told(face::walk(sheet, source, tag)), plain, || format!("sheet {sheet:?} source {source} tag {tag}"));
+    let entry = if matches!(plain, Err((11, _))) { "walk, a stopped link" } else { "walk" };
+    compared.same(entry, told(face::walk(sheet, source, tag)), plain, || format!("sheet {sheet:?} source {source} tag {tag}"));
 }
 
 pub fn link(compared: &mut Compared, sheet: &[u8], book: &Result<Book, u8>, stage: u8, switch: u16, code: u8) {
     let plain = book.as_ref().map_err(|&k| k).and_then(|b| b.link(stage, switch, code));
     let case = || format!("sheet {sheet:?} stage {stage} switch {switch} code {code}");
-    compared.same("link", number(face::link(sheet, stage, switch, code)), plain, case);
+    let entry = if matches!(plain, Ok(Some(_))) { "link, stopped" } else { "link" };
+    compared.same(entry, number(face::link(sheet, stage, switch, code)), plain, case);
 }
 
 pub fn listing(compared: &mut Compared, sheet: &[u8], book: &Result<Book, u8>, room: usize) {

@@ -28,6 +28,30 @@ static void holds(const char *what, const uint8_t *memory, const void *bytes, si
     }
 }
 
+/* 11, the stage and the notice */
+static void stopped(const char *what, uint64_t answer, unsigned stage, unsigned notice) {
+    is(what, answer, 11, stage + 256 * (uint64_t)notice);
+    if (tabashfar_stage(answer) != stage || tabashfar_notice(answer) != notice) {
+        fprintf(stderr, "face.c: %s names stage %u and notice %u, not %u and %u\n", what, tabashfar_stage(answer),
+                tabashfar_notice(answer), stage, notice);
+        wrong = 1;
+    }
+}
+
+/* the notices that are named where both links out of switch 1 toward 0 are stopped, and the destination at the last stage */
+static void stopping(void) {
+    uint8_t memory[TABASHFAR_BOOK] = {0};
+    const uint16_t pairs[4] = {1, 0, 3, 3};
+    uint64_t answers[2] = {0};
+    stopped("route, no clear path", tabashfar_route(filed, sizeof filed, 1, 0), 0, 7);
+    is("routes, no clear path", tabashfar_routes(filed, sizeof filed, pairs, 4, answers, 2), 0, 0);
+    stopped("routes, no clear path, the first", answers[0], 0, 7);
+    is("routes, no clear path, the second", answers[1], 0, 3);
+    stopped("walk", tabashfar_walk(filed, sizeof filed, 1, 8), 0, 8);
+    is("file_switch, the last number", tabashfar_file_switch(filed, sizeof filed, 65535, 3, 3, memory, sizeof memory), 0, 38);
+    stopped("route, the last stage", tabashfar_route(memory, 38, 3, 3), 2, 65535);
+}
+
 /* what hands a book back: each once accepted, the filings and the opening refused too */
 static void changes(void) {
     uint8_t memory[TABASHFAR_BOOK] = {0};
@@ -60,13 +84,15 @@ int main(void) {
     is("steps_to_tag", tabashfar_steps_to_tag(3, 1, memory, 3), 0, 8);
     is("normal_form", tabashfar_normal_form(3, 1, 40), 0, 8);
     changes();
-    is("link", tabashfar_link(sheet, len, 0, 1, 2), 0, 1);
+    is("link", tabashfar_link(sheet, len, 0, 1, 2), 0, 7);
+    is("link, clear", tabashfar_link(sheet, len, 0, 1, 0), 0, 0);
     is("listing", tabashfar_listing(sheet, len, memory, 10), 0, 1);
     is("route", tabashfar_route(sheet, len, 1, 0), 0, 8);
     is("routes", tabashfar_routes(sheet, len, pairs, 4, answers, 2), 0, 0);
     is("routes, the first", answers[0], 0, 8);
     is("routes, the second", answers[1], 10, 0);
-    is("walk", tabashfar_walk(sheet, len, 1, 0), 11, 0);
+    stopped("walk", tabashfar_walk(sheet, len, 1, 0), 0, 7);
+    stopping();
     is("header", tabashfar_header(sheet, len), 0, 3 + 256 * 1);
     is("has_action", tabashfar_has_action(sheet, len, 1), 13, 0);
     is("read_action", tabashfar_read_action(sheet + 8, 10), 0, 1);

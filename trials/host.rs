@@ -12,7 +12,23 @@ const SHEET: [u8; 18] = *b"FSH\0\x01\x03\0\x01\x01\0\x07\x01\0\0\x01\0\0\x04";
 const FILED: [u8; 28] = *b"FSH\0\x01\x03\0\x02\x01\0\x07\x01\0\0\x01\0\0\x04\x01\0\x08\x02\x01\0\x02\0\0\0";
 
 fn refused<T>(number: u8) -> Result<T, Refused> {
-    Err(Refused { number, stage: 0 })
+    Err(Refused { number, stage: 0, notice: 0 })
+}
+
+fn stopped<T>(stage: u8, notice: u16) -> Result<T, Refused> {
+    Err(Refused { number: 11, stage, notice })
+}
+
+/// The notices that are named where both links out of switch 1 toward 0 are stopped, and the destination at the last stage.
+fn stopping() {
+    let mut answers = [0; 2];
+    assert_eq!(tabashfar::route(&FILED, 1, 0), stopped(0, 7));
+    assert_eq!(tabashfar::routes(&FILED, &[1, 0, 3, 3], &mut answers), Ok(()));
+    assert_eq!(answers.map(tabashfar::answer), [stopped(0, 7), Ok(3)]);
+    assert_eq!(tabashfar::walk(&FILED, 1, 8), stopped(0, 8));
+    let mut memory = [0; tabashfar::BOOK];
+    let last = tabashfar::file_switch(&FILED, 65535, 3, 3, &mut memory).expect("the notice is accepted");
+    assert_eq!(tabashfar::route(last, 3, 3), stopped(2, 65535));
 }
 
 /// What hands a book back: each once accepted, and refused.
@@ -39,14 +55,16 @@ fn main() {
     assert_eq!(tabashfar::steps_to_tag(3, 1, &memory[..3]), Ok(8));
     assert_eq!(tabashfar::normal_form(3, 1, 40), Ok(8));
     changes();
-    assert_eq!(tabashfar::link(&SHEET, 0, 1, 2), Ok(true));
+    assert_eq!(tabashfar::link(&SHEET, 0, 1, 2), Ok(Some(7)));
+    assert_eq!(tabashfar::link(&SHEET, 0, 1, 0), Ok(None));
     assert_eq!(tabashfar::listing(&SHEET, &mut memory[..10]), Ok(1));
     assert_eq!(tabashfar::route(&SHEET, 1, 0), Ok(8));
     let mut answers = [0; 3];
     assert_eq!(tabashfar::routes(&SHEET, &[1, 0, 1, 8], &mut answers), Ok(()));
     assert_eq!(answers.map(tabashfar::answer), [Ok(8), refused(10), Ok(0)]);
     assert_eq!(tabashfar::routes(&SHEET, &[1, 0, 1], &mut answers), refused(13));
-    assert_eq!(tabashfar::walk(&SHEET, 1, 0), refused(11));
+    assert_eq!(tabashfar::walk(&SHEET, 1, 0), stopped(0, 7));
+    stopping();
     assert_eq!(tabashfar::header(&SHEET), Ok((3, 1)));
     assert_eq!(tabashfar::has_action(&SHEET, 1), refused(13));
     let part = tabashfar::action_part(&SHEET, 0);

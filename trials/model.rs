@@ -1,4 +1,4 @@
-//! A reference model of document 01 ("What the build covers, and its rules") and of document 02's §1, by the most obvious means.
+//! A reference model of document 01 ("What the build covers, and its rules") and of document 02's §1 and §2, by the most obvious means.
 //! Sentences in quotation marks are the documents' own. It was written from the documents alone, without sight of the proved code.
 #![allow(dead_code)]
 
@@ -40,6 +40,14 @@ pub struct Notice {
 pub struct Book {
     n: u8,
     notices: Vec<Notice>,
+}
+
+/// What comes with 11: "no clear path, with the stage; or, in a walk, the first stage whose link is stopped", and 02, §2's number of a
+/// notice.
+#[derive(Clone, Copy, PartialEq, Eq, Debug)]
+pub struct Stopped {
+    pub stage: u8,
+    pub notice: u16,
 }
 
 /// "Action 1 files", "Action 2 withdraws", "Action 3 routes".
@@ -86,7 +94,7 @@ fn minus_of(n: u8, stage: u8, switch: u16) -> u16 {
 
 /// "At stage i switch j has three links: straight (code 0) to j, plus (code 1) to j + 2^i, minus (code 2) to
 /// j - 2^i."
-fn far_end(n: u8, stage: u8, switch: u16, code: u8) -> u16 {
+pub fn far_end(n: u8, stage: u8, switch: u16, code: u8) -> u16 {
     match code {
         PLUS => plus_of(n, stage, switch),
         MINUS => minus_of(n, stage, switch),
@@ -231,7 +239,7 @@ pub fn normal_form(n: u8, source: u16, tag: u32) -> Result<u32, u8> {
 ///
 /// The list is lengthened stage by stage; each entry is replaced, in place, by its longer ones, state 0 first,
 /// so entries that parted earlier keep their order.
-fn paths(n: u8, source: u16, destination: u16) -> Vec<Vec<u8>> {
+pub fn paths(n: u8, source: u16, destination: u16) -> Vec<Vec<u8>> {
     let mut begun: Vec<(u16, Vec<u8>)> = vec![(source, Vec::new())];
     for stage in 0..n {
         let t = bit(u32::from(destination), stage);
@@ -265,26 +273,32 @@ fn set_has(set: u8, code: u8) -> bool {
     set & weight != 0
 }
 
+/// The stage whose links the target names: "Links: stage 0 to n-1", "for column i above 0, at stage i-1", "Pattern: stage"; none for column 0.
+fn stage_of(target: Target) -> Option<u8> {
+    match target {
+        Target::Links { stage, .. } | Target::Pattern { stage, .. } => Some(stage),
+        Target::Switch { column, .. } => column.checked_sub(1),
+    }
+}
+
 /// "1. Links: stage 0 to n-1, switch, and a set". "2. Switch: column 0 to n and switch. It stops the switch's
 /// input links: for column i above 0, at stage i-1, the straight link of j, plus of j - 2^(i-1), minus of
 /// j + 2^(i-1). Column 0 has no input links, so there it stops nothing." "3. Pattern: stage, value, mask, set.
 /// It names every switch whose bits under the mask equal the value."
 ///
 /// Whether the target names the link with this code of switch j at the stage `at`.
-fn names(n: u8, target: Target, at: u8, j: u16, code: u8) -> bool {
+pub fn names(n: u8, target: Target, at: u8, j: u16, code: u8) -> bool {
+    if stage_of(target) != Some(at) {
+        return false;
+    }
     match target {
-        Target::Links { stage, switch, set } => at == stage && j == switch && set_has(set, code),
-        Target::Switch { column, switch } => {
-            if column == 0 || at != column - 1 {
-                return false;
-            }
-            match code {
-                STRAIGHT => j == switch,
-                PLUS => j == minus_of(n, at, switch),
-                _ => j == plus_of(n, at, switch),
-            }
-        }
-        Target::Pattern { stage, value, mask, set } => at == stage && j & mask == value && set_has(set, code),
+        Target::Links { switch, set, .. } => j == switch && set_has(set, code),
+        Target::Switch { switch, .. } => match code {
+            STRAIGHT => j == switch,
+            PLUS => j == minus_of(n, at, switch),
+            _ => j == plus_of(n, at, switch),
+        },
+        Target::Pattern { value, mask, set, .. } => j & mask == value && set_has(set, code),
     }
 }
 
@@ -353,12 +367,19 @@ impl Book {
         self.notices.iter().any(|notice| names(self.n, notice.target, stage, switch, code))
     }
 
-    /// "the first stage whose link is stopped", if any; "A path is clear when none of its n links is stopped."
-    fn first_stopped_stage(&self, source: u16, steps: &[u8]) -> Option<u8> {
+    /// 02, §2: "the lowest number among the notices that stop the link, or clear"
+    fn lowest_that_stops(&self, stage: u8, switch: u16, code: u8) -> Option<u16> {
+        let stopping = self.notices.iter().filter(|notice| names(self.n, notice.target, stage, switch, code));
+        stopping.map(|notice| notice.number).min()
+    }
+
+    /// "the first stage whose link is stopped", if any, with 02, §2's "A walk passes that number on."; "A path is clear when none of its n
+    /// links is stopped."
+    fn first_stopped(&self, source: u16, steps: &[u8]) -> Option<Stopped> {
         let mut switch = source;
         for (stage, &code) in (0..self.n).zip(steps) {
-            if self.stopped(stage, switch, code) {
-                return Some(stage);
+            if let Some(notice) = self.lowest_that_stops(stage, switch, code) {
+                return Some(Stopped { stage, notice });
             }
             switch = far_end(self.n, stage, switch, code);
         }
@@ -392,6 +413,50 @@ impl Book {
             reached = next;
         }
         None
+    }
+
+    /// 02, §2: "a switch reached clear": the labels at which clear walks of so many links from the source arrive, wherever they lead, over all
+    /// three links of every switch.
+    fn reached_clear(&self, source: u16, links: u8) -> Vec<u16> {
+        let mut reached = vec![source];
+        for stage in 0..links {
+            let here: Vec<&Notice> = self.notices.iter().filter(|notice| stage_of(notice.target) == Some(stage)).collect();
+            let mut arrives = vec![false; labels(self.n) as usize];
+            for switch in reached {
+                for code in [STRAIGHT, PLUS, MINUS] {
+                    if !here.iter().any(|notice| names(self.n, notice.target, stage, switch, code)) {
+                        arrives[usize::from(far_end(self.n, stage, switch, code))] = true;
+                    }
+                }
+            }
+            reached = (0..=u16::MAX).zip(arrives).filter(|&(_, arrives)| arrives).map(|(label, _)| label).collect();
+        }
+        reached
+    }
+
+    /// 02, §2: "any way onward toward the destination from a switch reached clear at the named stage", as its switch and its code. Toward
+    /// the destination leads a link of stage i whose far end "agrees with d in its low i+1 bits".
+    pub fn ways_onward(&self, source: u16, destination: u16, stage: u8) -> Vec<(u16, u8)> {
+        let mut ways = Vec::new();
+        for switch in self.reached_clear(source, stage) {
+            for code in [STRAIGHT, PLUS, MINUS] {
+                if agrees(far_end(self.n, stage, switch, code), destination, stage + 1) {
+                    ways.push((switch, code));
+                }
+            }
+        }
+        ways
+    }
+
+    /// 02, §2: "A route with no clear path also names the lowest number that stops any way onward toward the destination from a switch
+    /// reached clear at the named stage."
+    ///
+    /// There is such a way, and each is stopped: otherwise another stage would have been named.
+    fn notice_named(&self, source: u16, destination: u16, stage: u8) -> u16 {
+        let ways = self.ways_onward(source, destination, stage);
+        let stops_a_way = |target: Target| ways.iter().any(|&(switch, code)| names(self.n, target, stage, switch, code));
+        let stopping = self.notices.iter().filter(|notice| stops_a_way(notice.target));
+        stopping.map(|notice| notice.number).min().expect("a notice stops a way onward")
     }
 
     /// "file: 16, 3, 4, 5, 6, 7, 8." "a change that was refused hands the book back as given."
@@ -437,8 +502,9 @@ impl Book {
         0
     }
 
-    /// "link stopped or not: 16, 4, 12."
-    pub fn link(&self, stage: u8, switch: u16, code: u8) -> Result<bool, u8> {
+    /// "link stopped or not: 16, 4, 12." 02, §2: "The link test should answer with the lowest number among the notices that stop the link, or
+    /// clear."
+    pub fn link(&self, stage: u8, switch: u16, code: u8) -> Result<Option<u16>, u8> {
         if self.cannot_be_produced() {
             return Err(16);
         }
@@ -448,12 +514,12 @@ impl Book {
         if code > 2 {
             return Err(12);
         }
-        Ok(self.stopped(stage, switch, code))
+        Ok(self.lowest_that_stops(stage, switch, code))
     }
 
     /// "route: 16, 10, 11." "Among clear paths from s to d, the first is found so: where two paths first part, the
     /// one whose state bit there is 0 comes first. The route answer is that path's normal tag."
-    pub fn route(&self, source: u16, destination: u16) -> Result<u32, (u8, Option<u8>)> {
+    pub fn route(&self, source: u16, destination: u16) -> Result<u32, (u8, Option<Stopped>)> {
         if self.cannot_be_produced() {
             return Err((16, None));
         }
@@ -461,15 +527,16 @@ impl Book {
             return Err((10, None));
         }
         for steps in paths(self.n, source, destination) {
-            if self.first_stopped_stage(source, &steps).is_none() {
+            if self.first_stopped(source, &steps).is_none() {
                 return Ok(normal_tag(self.n, source, &steps));
             }
         }
-        Err((11, self.stage_named(source, destination)))
+        let named = |stage| Stopped { stage, notice: self.notice_named(source, destination, stage) };
+        Err((11, self.stage_named(source, destination).map(named)))
     }
 
     /// "walk (book, source, tag): 16, 10, 12, 11, 17; otherwise clear."
-    pub fn walk(&self, source: u16, tag: u32) -> Result<(), (u8, Option<u8>)> {
+    pub fn walk(&self, source: u16, tag: u32) -> Result<(), (u8, Option<Stopped>)> {
         if self.cannot_be_produced() {
             return Err((16, None));
         }
@@ -480,8 +547,8 @@ impl Book {
             return Err((12, None));
         }
         let steps = steps_of(self.n, source, tag);
-        if let Some(stage) = self.first_stopped_stage(source, &steps) {
-            return Err((11, Some(stage)));
+        if let Some(stopped) = self.first_stopped(source, &steps) {
+            return Err((11, Some(stopped)));
         }
         if arrival(self.n, source, &steps) != destination_of(self.n, tag) {
             return Err((17, None));
@@ -687,14 +754,15 @@ fn ok_or_refused(answer: u8) -> String {
     }
 }
 
-/// "`TAG` with bits 0 to 2n-1 in that order, `NONE` with the stage, or `REFUSED` with the table number"
-fn tag_none_or_refused(n: u8, answer: Result<u32, (u8, Option<u8>)>) -> String {
+/// "`TAG` with bits 0 to 2n-1 in that order, `NONE` with the stage, or `REFUSED` with the table number"; 02, §2: "Printed `NONE` lines end in
+/// `BY` and the number"
+fn tag_none_or_refused(n: u8, answer: Result<u32, (u8, Option<Stopped>)>) -> String {
     match answer {
         Ok(tag) => {
             let bits: String = (0..2 * n).map(|position| if bit(tag, position) == 1 { '1' } else { '0' }).collect();
             format!("TAG {bits}")
         }
-        Err((_, Some(stage))) => format!("NONE {stage}"),
+        Err((_, Some(Stopped { stage, notice }))) => format!("NONE {stage} BY {notice}"),
         Err((number, None)) => format!("REFUSED {number}"),
     }
 }

@@ -4,6 +4,7 @@
 use crate::compared::Compared;
 use crate::draw::Draw;
 use crate::model;
+use crate::overlaps;
 use crate::program::{Did, Program};
 use crate::rows::sheet_of;
 
@@ -27,6 +28,7 @@ pub fn all(compared: &mut Compared, draw: &mut Draw) {
     );
     let mut small: Vec<Vec<u8>> = (0..40).map(|k| small_input(draw, k)).collect();
     small.push(Vec::new());
+    small.extend((0..20).map(|_| overlaps::sheet(draw)));
     let large = large_inputs(draw);
     for program in desk.iter().chain(&final_sheet) {
         small.iter().enumerate().for_each(|(k, input)| program.does_as_model(compared, input, 1 + k % 9));

@@ -17,6 +17,7 @@ pub fn all(compared: &mut Compared, draw: &mut Draw) {
         notices(compared, n);
     }
     numbers(compared);
+    numbers_named(compared);
     headers(compared);
     counts(compared);
     parts(compared);
@@ -134,6 +135,18 @@ fn numbers(compared: &mut Compared) {
     for number in 0..=u16::MAX {
         entries::file(compared, &sheet, Notice { number, target }, 78);
         entries::withdraw(compared, &sheet, number, 58);
+    }
+}
+
+/// Every number of 16 bits, filed beside one that names the same link: the lower is named.
+fn numbers_named(compared: &mut Compared) {
+    let target = Target::Links { stage: 0, switch: 0, set: 1 };
+    for number in 0..=u16::MAX {
+        let sheet = sheet_of(3, &[0x1234, number].map(|number| filing(Notice { number, target })));
+        let book = book_of(&sheet);
+        entries::link(compared, &sheet, &book, 0, 0, 0);
+        entries::walk(compared, &sheet, &book, 0, 0);
+        entries::route(compared, &sheet, &book, 0, 0);
     }
 }
 

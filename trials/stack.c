@@ -1,5 +1,6 @@
 /* How much stack the calls of include/tabashfar.h use: each is made on a stack of its own that is filled with a pattern, and what is left of
- * the pattern below it was not used. The sheets are those with the deepest calls: filings that find their place and filings that are refused.
+ * the pattern below it was not used. The sheets are those with the deepest calls: filings that find their place and filings that are refused;
+ * from 3 to 3 no path is clear.
  *
  *     stack [MOST]     ends with 1 where a call uses more than MOST bytes; 8,192 where none is given
  */
@@ -17,8 +18,8 @@ static uint8_t stack[STACK];
 static uint8_t sheet[8 + 10 * ACTIONS];
 static uint8_t memory[24 + 48 * ACTIONS];
 static uint16_t fields[TABASHFAR_FIELDS];
-static const uint16_t pairs[4] = {1, 4095, 4095, 1};
-static uint64_t answers[2];
+static const uint16_t pairs[6] = {1, 4095, 4095, 1, 3, 3};
+static uint64_t answers[3];
 static ucontext_t here, there;
 
 /* n = 12: filings of falling number, so that each moves all others; every fifth action withdraws one, every seventh routes */
@@ -58,8 +59,10 @@ static void make_sheet(void) {
     CALL(link, tabashfar_link(sheet, sizeof sheet, 0, 1, 2)) \
     CALL(listing, tabashfar_listing(sheet, sizeof sheet, memory, sizeof memory)) \
     CALL(route, tabashfar_route(sheet, sizeof sheet, 1, 4095)) \
-    CALL(routes, tabashfar_routes(sheet, sizeof sheet, pairs, 4, answers, 2)) \
+    CALL(route_without_path, tabashfar_route(sheet, sizeof sheet, 3, 3)) \
+    CALL(routes, tabashfar_routes(sheet, sizeof sheet, pairs, 6, answers, 3)) \
     CALL(walk, tabashfar_walk(sheet, sizeof sheet, 1, 0)) \
+    CALL(walk_stopped, tabashfar_walk(sheet, sizeof sheet, 3, 3)) \
     CALL(header, tabashfar_header(sheet, sizeof sheet)) \
     CALL(has_action, tabashfar_has_action(sheet, sizeof sheet, 1)) \
     CALL(action_part, tabashfar_action_part(sheet, sizeof sheet, 1)) \
@@ -94,6 +97,10 @@ static size_t used(void (*call)(void)) {
 int main(int argc, char **argv) {
     const size_t most = argc > 1 ? strtoul(argv[1], NULL, 10) : 8192;
     make_sheet();
+    if (tabashfar_number(tabashfar_route(sheet, sizeof sheet, 3, 3)) != 11) {
+        fprintf(stderr, "stack.c: a path from 3 to 3 is clear\n");
+        return 1;
+    }
     for (size_t k = 0; k < sizeof calls / sizeof *calls; k++) used(calls[k].call); /* names are bound at the first call */
     const size_t none = used(calls[0].call);
     size_t deepest = 0, which = 0;

@@ -1,5 +1,5 @@
-//! Trials of the proved controller against the model: every entry of document 01 and of document 02's §1, through the static library of the
-//! crate `face`, and the programs themselves, through standard input. A disagreement ends the run and prints the case in full.
+//! Trials of the proved controller against the model: every entry of document 01 and of document 02's §1 and §2, through the static library of
+//! the crate `face`, and the programs themselves, through standard input. A disagreement ends the run and prints the case in full.
 //!
 //!     trials [ROUNDS [SEED]]     ROUNDS random cases of each kind; 400 and a fixed seed where none are given
 
@@ -11,6 +11,7 @@ mod entries;
 mod face;
 mod life;
 mod model;
+mod overlaps;
 mod program;
 mod programs;
 #[path = "../bench/questions.rs"]
@@ -35,6 +36,7 @@ fn main() {
     let mut draw = Draw(Numbers(seed.max(1)));
     ranges::all(&mut compared, &mut draw);
     cases::smallest_fabrics(&mut compared);
+    cases::orders_of_numbers(&mut compared);
     cases::large_sheets(&mut compared, &mut draw);
     written::every_count(&mut compared, &mut draw);
     life::longest(&mut compared, &mut draw);
@@ -46,6 +48,7 @@ fn main() {
         cases::full_book(&mut compared, &mut draw);
         written::after_a_run(&mut compared, &mut draw);
         life::random(&mut compared, &mut draw);
+        (0..6).for_each(|_| overlaps::random(&mut compared, &mut draw));
     }
     programs::all(&mut compared, &mut draw);
     compared.report();

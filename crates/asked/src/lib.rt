@@ -1,4 +1,4 @@
-// Document 01, 'Numbers handed back': what a book is asked: link stopped or not, and listing.
+// Document 01, 'Numbers handed back', and document 02, §2: what a book is asked: link stopped or not, and listing.
 use actions::ACTION_LENGTH;
 use book::Book;
 use questions::Link;
@@ -50,10 +50,11 @@ pub fn tested(book: Book, stage: u8, switch: u16, code: u8) -> Link
     if 2 < code {
         return Link::Refused(Refusal::Tag);
     }
-    if stopper(book, stage, switch, code) == 0 {
+    let number = stopper(book, stage, switch, code);
+    if number == 0 {
         return Link::Clear;
     }
-    Link::Stopped
+    Link::Stopped(number)
 }
 
 // "listing: 16, 13."

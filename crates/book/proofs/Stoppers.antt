@@ -8,8 +8,9 @@ use Prim.Native.Nat.{ℕ, _≤_, _<_}
 use Rattle.notices.specs.declared.Notice.{Notice}
 use Rattle.notices.specs.Notices.{names, unfit}
 use Rattle.standing.specs.Rising.{Filed}
-use Rattle.standing.proofs.Lowest.{lowest-picks, lowest-least, lowest-none, lowest-some}
-use Rattle.book.specs.Standing.{Stopped, stopper}
+use Rattle.standing.specs.Picked.{LowestNumber}
+use Rattle.standing.proofs.Lowest.{lowest-picks, lowest-least, lowest-exactly, lowest-none, lowest-some}
+use Rattle.book.specs.Standing.{StopsLink, Stopped, stopper}
 
 module _ (n i j c : ℕ) where
   abbrev naming : Notice → Bool
@@ -23,6 +24,10 @@ module _ (n i j c : ℕ) where
   pub stopper-lowest : (m : ℕ) (l : List Notice) (x : Notice) → Filed (unfit n) m l → List·Memᴰ x l → names n x i j c ≡ true
       → (m < stopper n l i j c) × (stopper n l i j c ≤ x .number)
   stopper-lowest = lowest-least naming (unfit n)
+
+  -- it is the lowest number among those that name the link, wherever there is one
+  pub stopper-exactly : (k : ℕ) (l : List Notice) → Filed (unfit n) 0 l → LowestNumber (StopsLink n l i j c) k ↔ ((stopper n l i j c ≡ k) × (1 ≤ k))
+  stopper-exactly = lowest-exactly naming (unfit n)
 
   -- 0 where no standing notice names the link, and only there
   pub stopper-none : (l : List Notice) → Filed (unfit n) 0 l → (stopper n l i j c ≡ 0) ↔ (Stopped n l i j c → ⊥)

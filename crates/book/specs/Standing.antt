@@ -8,7 +8,7 @@ use Rattle.table.specs.Checks.{_below_}
 use Rattle.fabric.specs.Labels.{outsideSizes}
 use Rattle.notices.specs.declared.Notice.{Notice}
 use Rattle.notices.specs.Notices.{names, unfit}
-use Rattle.standing.specs.Picked.{Some, lowest}
+use Rattle.standing.specs.Picked.{Picked, Some, lowest}
 use Rattle.standing.specs.Rising.{filler, inPlaces, Filed, misfiled, littered}
 use Rattle.book.specs.declared.Book.{Book}
 
@@ -38,12 +38,16 @@ pub record Sound (b : Book) : Type 0 where
   pub filed : Filed (unfit (b .n)) 0 (standing b)
   pub rest : unused b ≡ replicate (48 - b .count) filler
 
+-- a notice that stands in the list and names the link
+abbrev pub StopsLink : ℕ → List Notice → ℕ → ℕ → ℕ → Notice → Type 0
+StopsLink n l i j c = Picked (λ x. names n x i j c) l
+
 -- some notice that stands in the list names the link
 abbrev pub Stopped : ℕ → List Notice → ℕ → ℕ → ℕ → Type 0
 Stopped n l i j c = Some (λ x. names n x i j c) l
 
 -- The number of the first notice of the list that names the link, 0 where none does. `stopper-none` and `stopper-some` (proofs/Stoppers.antt)
--- tie it to `Stopped`, and `stopper-lowest` says that it is the lowest such number among standing notices.
+-- tie it to `Stopped`, and `stopper-exactly` says that it is the lowest such number among standing notices.
 abbrev pub stopper : ℕ → List Notice → ℕ → ℕ → ℕ → ℕ
 stopper n l i j c = lowest (λ x. names n x i j c) l
 

@@ -22,6 +22,7 @@ fn main() {
     example_13();
     used_again();
     inputs();
+    lowest();
     full::run();
     refusals::run();
     damaged::run();
@@ -92,7 +93,10 @@ pub fn link(book: Book, stage: u8, switch: u16, code: u8) {
     number(code as u64);
     match asked::link(book, stage, switch, code) {
         Link::Clear => word(b" CLEAR"),
-        Link::Stopped => word(b" STOPPED"),
+        Link::Stopped(by) => {
+            word(b" STOPPED BY");
+            number(by as u64);
+        }
         Link::Refused(why) => refused(why),
     }
     word(b"\n");
@@ -176,4 +180,24 @@ fn inputs() {
     let b4 = file(b3, links(4, 2, 5, 2));
     link(b4, 2, 5, 1);
     link(b4, 2, 5, 2);
+}
+
+// Document 02, §2: the lowest number among the notices that stop the link, whatever was filed first and whatever its target.
+fn lowest() {
+    word(b"lowest number\n");
+    let b0 = open(3);
+    let b1 = file(b0, links(300, 1, 5, 7));
+    let b2 = file(b1, pattern(44, 1, 1, 3, 2));
+    let b3 = file(b2, switch(600, 2, 7));
+    link(b3, 1, 5, 1);
+    link(b3, 1, 5, 0);
+    link(b3, 1, 1, 1);
+    let b4 = file(b3, links(1, 1, 5, 4));
+    link(b4, 1, 5, 1);
+    link(b4, 1, 5, 2);
+    let b5 = withdraw(b4, 44);
+    link(b5, 1, 5, 1);
+    let b6 = withdraw(b5, 300);
+    link(b6, 1, 5, 1);
+    link(b6, 1, 5, 0);
 }

@@ -1,35 +1,33 @@
 -- Demand 3 for the book. After any run of filings and withdrawings from a newly opened book, refused ones among them, exactly
 -- those notices stand that were accepted and not withdrawn since; and the book is that into which only they were filed.
 use mathlib.Core.Path.{_≡_, refl, sym, ap, subst, _∙_}
-use mathlib.Core.Bool.{Bool, true, false, cond}
+use mathlib.Core.Bool.{Bool, true, false}
 use mathlib.Core.List.{List, [], _∷_, map, List·Memᴰ, List·Memᴰ·head, List·Memᴰ·not-nil}
 use mathlib.Core.Logic.{_⊎_, inl, inr, ⊎-elim, _↔_}
-use Prim.Native.Nat.{ℕ, _≤_, _<_}
+use Prim.Native.Nat.{ℕ, zero, suc, _≤_, _<_}
 use native.Mathlib.Omega.{arith}
-use native.Mathlib.Decide.{ℕ-discrete}
-use borrow.Author.Tests.{ne-eqb, lt-leb, le-ltb}
-use lib.Dec.{eqb, leb}
+use borrow.Author.Tests.{lt-leb, le-ltb}
+use lib.Dec.{leb}
 use lib.ListN.{length}
-use Rattle.table.proofs.Checks.{neither-of, passed-accepts}
-use Rattle.table.specs.Reply.{Reply, refused}
-use Rattle.table.specs.Checks.{Passed.none, Passed.passes}
+use Rattle.table.proofs.Checks.{neither-of, zero-one}
+use Rattle.table.specs.Checks.{Passed, Passed.none, Passed.passes}
 use Rattle.fabric.specs.Labels.{size, outsideSizes}
 use Rattle.notices.specs.declared.Notice.{Notice}
 use Rattle.book.specs.declared.Book.{Book}
 use Rattle.questions.specs.declared.Link.{Link}
-use Rattle.notices.specs.Notices.{unfit}
-use Rattle.book.specs.Standing.{standing, bookOf, Stopped, stopper}
+use Rattle.notices.specs.Notices.{names, unfit}
+use Rattle.standing.specs.Picked.{LowestNumber}
+use Rattle.book.specs.Standing.{standing, bookOf, StopsLink, stopper}
 use Rattle.book.specs.Entries.{opened}
-use Rattle.questions.specs.Entries.{linkChecks, linkSays, Tests}
-use Rattle.questions.proofs.Testing.{tests-says}
-use Rattle.changes.specs.Runs.{NamedSince, Change, after, Accepted, run, AllAccepted, NotWithdrawn, StandsSince}
-use Rattle.standing.specs.Rising.{Distinct}
+use Rattle.questions.specs.Entries.{linkChecks, Tests}
+use Rattle.changes.specs.Runs.{NamesSince, NamedSince, Change, after, Accepted, run, AllAccepted, NotWithdrawn, StandsSince}
+use Rattle.standing.specs.Rising.{Filed, Distinct}
 use Rattle.standing.proofs.Members.{filed-distinct}
 pub use Rattle.changes.proofs.Runs.{run-on}
 use Rattle.changes.proofs.Changes.{Good, good-after, filed-stands, stands-on, stood-or-filed}
 use Rattle.changes.proofs.Reach.{good-run, good-sound, opened-good, opened-is, any-order}
-use Rattle.book.proofs.Stoppers.{stopper-some}
-use Rattle.questions.proofs.Once.{link-tells}
+use Rattle.book.proofs.Stoppers.{stopper-none, stopper-exactly}
+use Rattle.standing.proofs.Lowest.{lowest-number-as}
 
 module _ (n : ℕ) (x : Notice) where
   stays : (changes : List Change) (b : Book) → Good n b → List·Memᴰ x (standing b) → NotWithdrawn (x .number) changes b → List·Memᴰ x (standing (run changes b))
@@ -117,36 +115,42 @@ module _ (n : ℕ) (legal : outsideSizes n ≡ false) (changes : List Change) (i
   same-size : end .n ≡ n
   same-size = ap (λ (b : Book). b .n) (end-good .whole)
 
-  test-says : Tests end i j c r → linkSays r ≡ Reply.accepted (cond (eqb (stopper (end .n) (standing end) i j c) 0) 0 1 ∷ [])
-  test-says t =
-      tests-says end i j c r t
-      ∙ passed-accepts refused _ (linkChecks end i j c)
-      (passes (good-sound n end legal end-good)
+  passed : Passed (linkChecks end i j c)
+  passed =
+      passes (good-sound n end legal end-good)
       (passes (neither-of _ _ (ap (λ (k : ℕ). leb k i) same-size ∙ lt-leb n i stage) (ap (λ (k : ℕ). leb (size k) j) same-size ∙ lt-leb (size n) j label))
-      (passes (le-ltb 2 c (omega arith)) none)))
+      (passes (le-ltb 2 c (omega arith)) none))
 
-  named : Stopped n (standing end) i j c → NamedSince n changes i j c
-  named w = (w .0, stands-exactly n changes (w .0) .0 (w .1), w .2)
+  -- the notices that stop the link are those of the run that name it
+  named : (x : Notice) → StopsLink (end .n) (standing end) i j c x → NamesSince n changes i j c x
+  named x w = (stands-exactly n changes x .0 (w .0), subst (λ (m : ℕ). names m x i j c ≡ true) same-size (w .1))
 
-  stopped : NamedSince n changes i j c → Stopped n (standing end) i j c
-  stopped w = (w .0, stands-exactly n changes (w .0) .1 (w .1), w .2)
+  stopped : (x : Notice) → NamesSince n changes i j c x → StopsLink (end .n) (standing end) i j c x
+  stopped x w = (stands-exactly n changes x .1 (w .0), subst (λ (m : ℕ). names m x i j c ≡ true) (sym same-size) (w .1))
 
-  by-stopper : Tests end i j c r → Dec (stopper n (standing end) i j c ≡ 0) → ((r ≡ Link.Clear) × (NamedSince n changes i j c → ⊥)) ⊎ ((r ≡ Link.Stopped) × NamedSince n changes i j c)
-  by-stopper t (yes e) =
-      inl (
-        link-tells r Link.Clear (test-says t ∙ ap (λ (k : ℕ). Reply.accepted (cond (eqb k 0) 0 1 ∷ [])) (ap (λ (k : ℕ). stopper k (standing end) i j c) same-size ∙ e)),
-        λ w. stopper-some n i j c (standing end) (end-good .filed) .1 (stopped w) e,
-      )
-  by-stopper t (no e) =
-      inr (
-        link-tells r Link.Stopped
-            (test-says t ∙ ap (λ b. Reply.accepted (cond b 0 1 ∷ [])) (ne-eqb (stopper (end .n) (standing end) i j c) 0 (λ q. e (ap (λ (k : ℕ). stopper k (standing end) i j c) (sym same-size) ∙ q)))),
-        named (stopper-some n i j c (standing end) (end-good .filed) .0 e),
-      )
+  -- "the lowest number among the notices that stop the link, or clear": of those that were accepted and not withdrawn since
+  pub link-exactly : Tests end i j c r
+      → ((r ≡ Link.Clear) × (NamedSince n changes i j c → ⊥)) ⊎ ((k : ℕ) × (r ≡ Link.Stopped k) × LowestNumber (NamesSince n changes i j c) k)
+  link-exactly t = go (stopper (end .n) (standing end) i j c) refl
+    where
+      filed : Filed (unfit (end .n)) 0 (standing end)
+      filed = subst (λ (m : ℕ). Filed (unfit m) 0 (standing end)) (sym same-size) (end-good .filed)
 
-  -- "link stopped or not": stopped where some notice names the link that was accepted and not withdrawn since, clear otherwise
-  pub link-exactly : Tests end i j c r → ((r ≡ Link.Clear) × (NamedSince n changes i j c → ⊥)) ⊎ ((r ≡ Link.Stopped) × NamedSince n changes i j c)
-  link-exactly t = by-stopper t (ℕ-discrete (stopper n (standing end) i j c) 0)
+      go : (k : ℕ) → stopper (end .n) (standing end) i j c ≡ k
+          → ((r ≡ Link.Clear) × (NamedSince n changes i j c → ⊥)) ⊎ ((k : ℕ) × (r ≡ Link.Stopped k) × LowestNumber (NamesSince n changes i j c) k)
+      go zero e =
+          let none = stopper-none (end .n) i j c (standing end) filed .0 e in
+          inl (t .clear passed none, λ w. let v = stopped (w .0) (w .1) in none (w .0, v .0, v .1))
+      go (suc k) e =
+          let low = stopper-exactly (end .n) i j c (suc k) (standing end) filed .1 (e, omega arith) in
+          inr (suc k, t .stopped passed (suc k) low, lowest-number-as named stopped low)
+
+  -- "the stopped links are exactly those named by notices accepted and not withdrawn since"
+  pub stopped-exactly : Tests end i j c r → ((k : ℕ) × (r ≡ Link.Stopped k)) ↔ NamedSince n changes i j c
+  stopped-exactly t = (
+    (λ v. ⊎-elim (λ w. let e = w .0 in let f = v .1 in absurd (zero-one cc)) (λ w. (w .2 .notice, w .2 .among)) (link-exactly t)),
+    (λ v. ⊎-elim (λ w. absurd (w .1 v)) (λ w. (w .0, w .1)) (link-exactly t)),
+  )
 
 -- every change of a book of size 0 is refused
 refused-size : (changes : List Change) → run changes (bookOf 0 []) ≡ bookOf 0 []

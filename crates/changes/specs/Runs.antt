@@ -69,7 +69,11 @@ pub record StandsSince (b : Book) (changes : List Change) (x : Notice) : Type 0 
   pub accepted : Accepted (Change.file x) (run before b)
   pub kept : NotWithdrawn (x .number) later (after (Change.file x) (run before b))
 
--- In a run from an empty book of n stages, some notice names the link that was accepted and not withdrawn since: `link-exactly`
--- (proofs/Since.antt).
+-- in a run from an empty book of n stages, a notice names the link that was accepted and not withdrawn since
+abbrev pub NamesSince : ℕ → List Change → ℕ → ℕ → ℕ → Notice → Type 0
+NamesSince n changes i j c x = StandsSince (opened n) changes x × (names n x i j c ≡ true)
+
+-- some notice does: `stopped-exactly` (proofs/Since.antt) says that these are the links that are stopped, `link-exactly` that the link test answers the lowest
+-- number of one that does
 abbrev pub NamedSince : ℕ → List Change → ℕ → ℕ → ℕ → Type 0
-NamedSince n changes i j c = (x : Notice) × StandsSince (opened n) changes x × (names n x i j c ≡ true)
+NamedSince n changes i j c = (x : Notice) × NamesSince n changes i j c x

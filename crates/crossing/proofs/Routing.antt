@@ -5,16 +5,21 @@ use Prim.Native.Nat.{ℕ, suc, _+_, _*_, _≤_, _<_}
 use native.Mathlib.Numerals.{add-one}
 use native.Mathlib.Omega.{arith}
 use Rattle.fabric.specs.Labels.{size, bit}
+use Rattle.fabric.specs.Walks.{walked}
 use Rattle.frontier.specs.declared.Front.{Front}
 use Rattle.frontier.specs.declared.Stops.{Stops}
 use Rattle.paths.specs.Clear.{Rule}
 use Rattle.frontier.specs.Columns.{highRight}
 use Rattle.frontier.specs.Stops.{linksOf, setAt, StopsUnder}
 use Rattle.frontier.specs.Frontier.{lesser, advanced, mirrored}
+use Rattle.frontier.specs.WaysOnward.{waysOnward}
 use Rattle.paths.proofs.Named.{stage-named, none-clear}
+use Rattle.paths.proofs.Ways.{some-way}
 use Rattle.frontier.proofs.Frontier.{Looks, Holds, Found, looks-from, advanced-holds, onward-best, found-first}
+use Rattle.frontier.proofs.WaysOnward.{ways-are}
 use Rattle.routes.specs.declared.Found as answer
 use Rattle.routes.specs.Routed.{Routed}
+use Rattle.crossing.specs.Crossed.{StuckAt}
 
 module _ (n : ℕ) (stops : Rule) (s d : ℕ) (source : s < size n) where
   -- one stage on, by the set that is stopped there
@@ -28,12 +33,20 @@ module _ (n : ℕ) (stops : Rule) (s d : ℕ) (source : s < size n) where
       subst (λ (k : ℕ). Holds n stops s d k next) (sym (add-one i)) (subst (Holds n stops s d (suc i)) (sym same) on)
 
   -- a frontier that is reached no more
-  pub none-ahead : (i : ℕ) → i < n → (front next : Front) → Holds n stops s d i front → lesser (front .high) (front .low) < size n
-      → Holds n stops s d (i + 1) next → size n ≤ lesser (next .high) (next .low) → Routed n stops s d (answer.Found.None i)
-  none-ahead i h front next held alive held' gone =
+  pub none-ahead : (i : ℕ) → i < n → (right : Bool) → highRight n s d i ≡ right → (front next : Front) → Holds n stops s d i front
+      → lesser (front .high) (front .low) < size n → Holds n stops s d (i + 1) next → size n ≤ lesser (next .high) (next .low)
+      → StuckAt n stops s d i (waysOnward n right front)
+  none-ahead i h right er front next held alive held' gone =
       let w = onward-best n stops s d source i (omega arith) front held .reached alive in
       let empty = onward-best n stops s d source (suc i) h next (subst (λ (k : ℕ). Holds n stops s d k next) (add-one i) held') .unreached gone in
-      (none-clear n stops s d i h empty, stage-named n stops s d i h (w .walk) (w .among) empty)
+      let way = some-way n stops s d i h (w .walk) (w .among) in
+      record {
+        inside = h;
+        none = none-clear n stops s d i h empty;
+        named = stage-named n stops s d i h (w .walk) (w .among) empty;
+        onward = ways-are n stops s d source i h right er front held;
+        some = (walked n 0 s (w .walk), way .0, way .1);
+      }
 
   -- a frontier that reaches the last column
   pub found-ahead : d < size n → (i tag : ℕ) → i ≡ n → (front : Front) → Holds n stops s d i front → lesser (front .high) (front .low) < size n

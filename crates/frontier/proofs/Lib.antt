@@ -5,5 +5,6 @@ pub mod Places
 pub mod Best
 pub mod Sides
 pub mod Frontier
+pub mod WaysOnward
 pub mod Sets
 pub mod Filled

@@ -1,6 +1,6 @@
 -- A word of sets, four bits a stage: one set more.
-use mathlib.Core.Path.{_≡_, refl, sym, ap, _∙_}
-use mathlib.Core.Bool.{Bool, true, false, _&&_, _||_}
+use mathlib.Core.Path.{_≡_, refl, sym, ap, ap₂, _∙_}
+use mathlib.Core.Bool.{Bool, true, false, cond, not, _&&_, _||_}
 use Prim.Native.Nat.{ℕ, zero, suc, _+_, _-_, _*_, _/_, _%_, _^_, _≤_, _<_, min, max}
 use native.Mathlib.Nat.{mul-add-mod-self-right, mul-mod-left, mul-assoc, zero-max, mod-eq-of-lt}
 use native.Mathlib.Decide.{ℕ-discrete, decLt}
@@ -8,10 +8,10 @@ use native.Mathlib.Omega.{arith}
 use borrow.Author.Tests.{eq-eqb, ne-eqb}
 use lib.Dec.{eqb}
 use lib.Pow.{pow-mono, pow-add, pow-pos, shl-lt, shl-shr, high}
-use lib.Bits.{bitAnd, bitOr, and-step, and-shr, or-step, or-shr}
+use lib.Bits.{bitAnd, bitOr, and-step, and-shr, and-le-l, or-step, or-shr}
 use Rattle.fabric.specs.Labels.{bit}
 use Rattle.fabric.proofs.Bits.{bit-lt, bit-of-low}
-use Rattle.frontier.specs.Stops.{StopsAt, has, setOf, linksOf}
+use Rattle.frontier.specs.Stops.{StopsAt, has, setOf, linksOf, share}
 
 -- of two bits, the greater is one where either is, the lesser where both are
 max-lt : (x y : ℕ) → x < 2 → y < 2 → max x y < 2
@@ -80,6 +80,29 @@ set-has put (suc (suc (suc c))) h = absurd (omega arith)
 
 pub none-has : (c : ℕ) → has 0 c ≡ false
 none-has c = let e : 0 / 2 ^ c ≡ 0 = ap (λ (x : ℕ). x / 2 ^ c) {x = 0} {y = 0 * 2 ^ c + 0} (omega arith) ∙ high 0 c (pow-pos c) in rw e refl
+
+-- a set of the three links is empty where it has none of them
+none-or-some : (m : ℕ) → m < 8 → not (eqb m 0) ≡ (has m 0 || (has m 1 || has m 2))
+none-or-some zero h = refl
+none-or-some (suc zero) h = refl
+none-or-some (suc (suc zero)) h = refl
+none-or-some (suc (suc (suc zero))) h = refl
+none-or-some (suc (suc (suc (suc zero)))) h = refl
+none-or-some (suc (suc (suc (suc (suc zero))))) h = refl
+none-or-some (suc (suc (suc (suc (suc (suc zero)))))) h = refl
+none-or-some (suc (suc (suc (suc (suc (suc (suc zero))))))) h = refl
+none-or-some (suc (suc (suc (suc (suc (suc (suc (suc m)))))))) h = absurd (omega arith)
+
+-- so two sets have a link in common where what they share is not empty
+pub shared-exactly : (a b : ℕ) → a < 8 → not (eqb (bitAnd a b) 0) ≡ share a b
+shared-exactly a b small =
+    none-or-some (bitAnd a b) (omega (arith, and-le-l a b))
+    ∙ ap₂ (λ (x y : Bool). x || y) (has-and 0 a b) (ap₂ (λ (x y : Bool). x || y) (has-and 1 a b) (has-and 2 a b))
+
+-- a set that is put in only where something holds
+pub part-has : (b : Bool) (set c : ℕ) → has (cond b set 0) c ≡ (b && has set c)
+part-has true set c = refl
+part-has false set c = none-has c
 
 -- a set put at stage k is stage k's, and no other's
 module _ (set k : ℕ) (small : set < 8) where

@@ -1,3 +1,4 @@
 pub mod Columns
 pub mod Stops
 pub mod Frontier
+pub mod WaysOnward

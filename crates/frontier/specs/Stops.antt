@@ -49,3 +49,7 @@ StopsUnder n rule s d w = (i : ℕ) → i < n → linksOf (setAt i w) ≡ stopsF
 -- the word with the links of a set more at stage k
 abbrev pub SetMore : ℕ → ℕ → Stops → Stops → Type 0
 SetMore k set old new = (i c : ℕ) → c < 3 → has (setAt i new) c ≡ (has (setAt i old) c || (eqb i k && has set c))
+
+-- whether two sets have a link in common
+abbrev pub share : ℕ → ℕ → Bool
+share a b = (has a 0 && has b 0) || ((has a 1 && has b 1) || (has a 2 && has b 2))

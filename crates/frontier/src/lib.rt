@@ -5,11 +5,14 @@ ghost use Prim.Native.Nat.{_+_, _*_, _≤_, _<_};
 ghost use Rattle.fabric.specs.Labels.{size};
 ghost use Rattle.frontier.specs.Stops.{linksOf};
 ghost use Rattle.frontier.specs.Frontier.{start, lostBy, through, lesser, advanced, mirrored};
+ghost use Rattle.frontier.specs.WaysOnward.{waysOnward};
 
 mod ways; // ways.rt: the two switches of each column
 mod links; // links.rt: which of their links are stopped
 
+pub use links::in_common;
 pub use links::none_stopped;
+pub use links::part;
 pub use links::set_of;
 pub use links::with_stopped;
 pub use ways::columns_between;
@@ -106,6 +109,18 @@ pub fn reached(n: u8, front: Front) -> bool
     ensures { λ r. ⌜ (r ≡ true → lesser (front .high) (front .low) < size n) × (r ≡ false → size n ≤ lesser (front .high) (front .low)) ⌝ }
 {
     first_of(front.high, front.low) < fabric::size(n) as u32
+}
+
+// The links that lead on from those of the two switches that are reached, as a set: straight out of the one whose bit is right, plus and minus out
+// of the other.
+pub fn ways_onward(n: u8, front: Front, right: bool) -> u8
+    requires { ⌜ n ≤ 12 ⌝ }
+    ensures { λ r. ⌜ (r ≡ waysOnward n right front) × (r < 8) ⌝ }
+{
+    let all = fabric::size(n) as u32;
+    let stays = chosen(right, front.high, front.low) < all;
+    let forks = chosen(right, front.low, front.high) < all;
+    links::set_of(stays, forks, forks)
 }
 
 // The states of the first of all walks to column n, that of stage 0 lowest, as a tag has them.

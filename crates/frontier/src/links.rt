@@ -3,7 +3,7 @@ use super::Stops;
 ghost use mathlib.Core.Path.{_≡_};
 ghost use mathlib.Core.Bool.{cond};
 ghost use Prim.Native.Nat.{_≤_, _<_};
-ghost use Rattle.frontier.specs.Stops.{has, setOf, noneStopped, SetMore};
+ghost use Rattle.frontier.specs.Stops.{has, setOf, noneStopped, SetMore, share};
 
 pub fn none_stopped() -> Stops
     ensures { λ r. ⌜ r ≡ noneStopped ⌝ }
@@ -19,14 +19,14 @@ pub fn in_set(set: u8, code: u8) -> bool
     fabric::bit_of(code, set as u16) == 1
 }
 
-// What a link adds to a set.
-fn part(stopped: bool, link: u8) -> u8
-    ensures { λ r. ⌜ (r ≡ cond stopped link 0) × (r ≤ link) ⌝ }
+// What a link, or a set of links, adds to a set where it is meant.
+pub fn part(meant: bool, link: u8) -> u8
+    ensures { λ r. ⌜ (r ≡ cond meant link 0) × (r ≤ link) ⌝ }
 {
-    if stopped { link } else { 0 }
+    if meant { link } else { 0 }
 }
 
-// The set of those of a stage's three links that are stopped.
+// The set of those of a stage's three links that are meant.
 pub fn set_of(straight: bool, plus: bool, minus: bool) -> u8
     ensures { λ r. ⌜ (r ≡ setOf straight plus minus) × (r < 8) ⌝ }
 {
@@ -41,4 +41,12 @@ pub fn with_stopped(stops: Stops, i: u8, set: u8) -> Stops
     Stops {
         sets: stops.sets | ((set as u64) << (4 * i)),
     }
+}
+
+// Whether two sets have a link in common.
+pub fn in_common(a: u8, b: u8) -> bool
+    requires { ⌜ a < 8 ⌝ }
+    ensures { λ r. ⌜ r ≡ share a b ⌝ }
+{
+    a & b != 0
 }

@@ -14,9 +14,17 @@ use Rattle.frontier.specs.Stops.{has, setAt}
 use Rattle.notices.specs.declared.Target.{Target}
 use Rattle.notices.specs.Targets.{setHas, targetNames}
 
--- the switch whose link of a code lies on ways: straight from the one, plus and minus from the one that forks
+-- a set of a stage's three links, by what each is in it for
+abbrev pub SetWhere : (ℕ → Bool) → ℕ → Type 0
+SetWhere test set = (set < 8) × ((c : ℕ) → c < 3 → has set c ≡ test c)
+
+-- of a stage's two switches the one whose link of a code lies on ways: straight from the one, plus and minus from the one that forks
+abbrev pub ofTwo : ℕ → ℕ → ℕ → ℕ
+ofTwo straight fork c = cond (eqb c 0) straight fork
+
+-- and where the two switches of each stage stand in two lists
 abbrev pub outOf : List ℕ → List ℕ → ℕ → ℕ → ℕ
-outOf straights forks i c = cond (eqb c 0) (getD straights i 0) (getD forks i 0)
+outOf straights forks i c = ofTwo (getD straights i 0) (getD forks i 0) c
 
 -- the switches that fork are labels, and each link on ways leads to one of the next column's two switches
 pub record Ways (n : ℕ) (straights forks : List ℕ) : Type 0 where

@@ -1,8 +1,9 @@
 // Which links on ways from a source to a destination a notice names. It is held against the two switches of its stage, or of its
 // column where it stops a switch. A notice of one switch names neither in most questions, and is passed over; a pattern is not, since a
 // test of it is wrong too often.
+use at_stage::inputs;
+use at_stage::meant;
 use frontier::Stops;
-use frontier::set_of;
 use frontier::with_stopped;
 use notices::Notice;
 use notices::Target;
@@ -12,6 +13,10 @@ ghost use Prim.Native.Nat.{ℕ, _≤_, _<_};
 ghost use Rattle.notices.specs.declared.Target.the-variants.{Links, Switch, Pattern};
 ghost use Rattle.notices.specs.Notices.{unfit};
 ghost use Rattle.named_links.specs.Named.{Ways, WithTarget, WithSet, WithInputs};
+
+mod at_stage; // at_stage.rt: which of one stage's links a notice names
+
+pub use at_stage::named_at;
 
 // What is stopped, with the links more that a notice names.
 pub fn with_notice(
@@ -92,7 +97,7 @@ fn with_set(stage: u8, straight: bool, fork: bool, set: u8, stops: Stops) -> Sto
     requires { ⌜ stage ≤ 12 ⌝ }
     ensures { λ r. ⌜ WithSet stage straight fork set stops r ⌝ }
 {
-    with_stopped(stops, stage, set_of(straight, fork, fork) & set)
+    with_stopped(stops, stage, meant(straight, fork, set))
 }
 
 // The input links of a switch, which leave the column before its own. Every link on ways leads to one of a column's two switches.
@@ -130,9 +135,7 @@ fn with_inputs(
     requires { ⌜ (n ≤ 12) × (i < n) × Ways n (now straights) (now forks) ⌝ }
     ensures { λ r. ⌜ WithInputs n (now (straights .entry)) (now (forks .entry)) i switch stops r ⌝ }
 {
+    let straight = straights[i as usize];
     let fork = forks[i as usize];
-    let straight = straights[i as usize] == switch;
-    let plus = fabric::landing(n, i, 1, fork) == switch;
-    let minus = fabric::landing(n, i, 2, fork) == switch;
-    with_stopped(stops, i, set_of(straight, plus, minus))
+    with_stopped(stops, i, inputs(n, i, straight, fork, switch))
 }

@@ -11,6 +11,7 @@ use walks::Ended;
 use written::Written;
 ghost use Rattle.table.specs.Reply.{answerSays};
 ghost use mathlib.Core.Path.{_≡_};
+ghost use mathlib.Core.List.{[], _∷_};
 ghost use Prim.Native.Nat.{ℕ, _*_, _^_, _≤_, _<_};
 ghost use Rattle.tags.specs.Entries.{tagSays};
 ghost use Rattle.questions.specs.Entries.{linkSays, listingSays};
@@ -20,7 +21,7 @@ ghost use Rattle.routes.specs.Routed.{routeSays};
 ghost use Rattle.sheet.specs.Entries.{headerSays};
 ghost use Rattle.printed.specs.Runs.{mostRoom, ranSays};
 ghost use Rattle.table.specs.Numbers.{numberOf};
-ghost use Rattle.packing.specs.Packed.{byte, packed};
+ghost use Rattle.packing.specs.Packed.{byte, valueOf, packed};
 
 // What fits a byte.
 pub const BYTE: u64 = 256;
@@ -63,7 +64,7 @@ pub fn link_told(answer: Link) -> u64
 {
     match answer {
         Link::Clear => 0,
-        Link::Stopped => value(1),
+        Link::Stopped(number) => value(number as u64),
         Link::Refused(why) => refused(why),
     }
 }
@@ -87,12 +88,19 @@ pub fn written(answer: Written) -> u64
     }
 }
 
+// What comes with 11: the stage in the low byte, and the notice's number from bit 8 on.
+fn stopped_at(stage: u8, number: u16) -> u64
+    ensures { λ r. ⌜ (r ≡ valueOf (stage ∷ number ∷ [])) × (r < 2 ^ 24) ⌝ }
+{
+    stage as u64 + BYTE * number as u64
+}
+
 pub fn ended(answer: Ended) -> u64
     ensures { λ r. ⌜ r ≡ packed (walkSays answer) ⌝ }
 {
     match answer {
         Ended::Clear => 0,
-        Ended::Stopped(stage) => 11 + value(stage as u64),
+        Ended::Stopped { stage, number } => 11 + value(stopped_at(stage, number)),
         Ended::Astray => 17,
         Ended::Refused(why) => refused(why),
     }
@@ -103,7 +111,7 @@ pub fn found(answer: Found) -> u64
 {
     match answer {
         Found::Tag(tag) => value(tag as u64),
-        Found::None(stage) => 11 + value(stage as u64),
+        Found::None { stage, number } => 11 + value(stopped_at(stage, number)),
         Found::Refused(why) => refused(why),
     }
 }

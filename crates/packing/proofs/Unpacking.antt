@@ -29,6 +29,11 @@ pub refused-unpacks : (k : ℕ) (vs : List ℕ) → k < 256 → (packed (Reply.r
 refused-unpacks k [] h = (omega arith, omega arith)
 refused-unpacks k (v ∷ vs) h = (omega arith, omega arith)
 
+-- document 02, §2: of 11 with a stage and a notice's number, the low byte is 11, the next is the stage, and the bits from 16 on are the number
+pub eleven-unpacks : (stage number : ℕ) → stage < 256
+    → let r : ℕ = packed (Reply.refusedWith 11 (stage ∷ number ∷ [])) in (r % 256 ≡ 11) × (r / 256 % 256 ≡ stage) × (r / 65536 ≡ number)
+eleven-unpacks stage number h = (omega arith, omega arith, omega arith)
+
 -- a refusal reads as its number, which is never 0: no refused call looks accepted
 pub refusal-shows : (why : Refusal) → (packed (refused (numberOf why)) % 256 ≡ numberOf why) × (1 ≤ packed (refused (numberOf why)) % 256)
 refusal-shows why =

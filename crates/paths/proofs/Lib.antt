@@ -3,3 +3,4 @@ pub mod Walks
 pub mod Alike
 pub mod Named
 pub mod Order
+pub mod Ways

@@ -6,7 +6,7 @@ use lib.ListN.{length, getD}
 use Rattle.table.specs.declared.Refusal.{Refusal}
 use Rattle.table.specs.Checks.{Given.here, Given.later}
 use Rattle.printed.specs.Words.{ascii, decimalIn, decimal, ending, refusal, FILE, WITHDRAW, ROUTE, ACTION}
-use Rattle.printed.proofs.WordsSpelled.{OneLine, line-feed-last, nine-are-words, decimal-is-a-word}
+use Rattle.printed.proofs.WordsSpelled.{OneLine, line-feed-last, ten-are-words, decimal-is-a-word}
 use Rattle.printed.specs.Told.{told, foundTold}
 use Rattle.printed.proofs.AnswersSpelled.{refusal-in-words, told-in-words, found-in-words}
 use Rattle.book.specs.declared.Book.{Book}
@@ -58,10 +58,10 @@ module _ (n : ℕ) (b : Book) (text : List ℕ) where
   -- "LF at each end", and nowhere else in a line
   pub line-ends : (a : Action) → LineOf n b a text → OneLine text
   line-ends (Action.File x) l =
-      rw (l .2) (line-feed-last FILE (decimal (x .number) ∷ told (l .0 .answer)) (nine-are-words .1 .0) (decimal-is-a-word (x .number), told-in-words (l .0 .answer)))
+      rw (l .2) (line-feed-last FILE (decimal (x .number) ∷ told (l .0 .answer)) (ten-are-words .1 .0) (decimal-is-a-word (x .number), told-in-words (l .0 .answer)))
   line-ends (Action.Withdraw k) l =
-      rw (l .2) (line-feed-last WITHDRAW (decimal k ∷ told (l .0 .answer)) (nine-are-words .1 .1 .0) (decimal-is-a-word k, told-in-words (l .0 .answer)))
+      rw (l .2) (line-feed-last WITHDRAW (decimal k ∷ told (l .0 .answer)) (ten-are-words .1 .1 .0) (decimal-is-a-word k, told-in-words (l .0 .answer)))
   line-ends (Action.Route s d) l =
       rw (l .2)
-      (line-feed-last ROUTE (decimal s ∷ decimal d ∷ foundTold n (l .0)) (nine-are-words .1 .1 .1 .0) (decimal-is-a-word s, (decimal-is-a-word d, found-in-words n (l .0))))
-  line-ends (Action.Refused why) l = rw l (line-feed-last ACTION (refusal why) (nine-are-words .1 .1 .1 .1 .0) (refusal-in-words why))
+      (line-feed-last ROUTE (decimal s ∷ decimal d ∷ foundTold n (l .0)) (ten-are-words .1 .1 .1 .0) (decimal-is-a-word s, (decimal-is-a-word d, found-in-words n (l .0))))
+  line-ends (Action.Refused why) l = rw l (line-feed-last ACTION (refusal why) (ten-are-words .1 .1 .1 .1 .0) (refusal-in-words why))

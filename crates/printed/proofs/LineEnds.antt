@@ -11,7 +11,7 @@ use Rattle.printed.specs.Words.{decimal, refusal, SHEET}
 use Rattle.printed.specs.Text.{sheetLine, refusedSheet}
 use Rattle.printed.specs.Runs.{Lines, Lines.start, Lines.more, Prints}
 use Rattle.printed.specs.LineEnds.{lineEnds, linesOf}
-use Rattle.printed.proofs.WordsSpelled.{Within, OneLine, line-feed-last, nine-are-words, decimal-is-a-word}
+use Rattle.printed.proofs.WordsSpelled.{Within, OneLine, line-feed-last, ten-are-words, decimal-is-a-word}
 use Rattle.printed.proofs.AnswersSpelled.{refusal-in-words}
 use Rattle.printed.proofs.Answered.{line-ends}
 use Rattle.printed.proofs.Texts.{first-line, refused-text}
@@ -42,10 +42,10 @@ line-for-each {n = n} (more {k = k} {text = text} {next = next} {b = b} v made p
 
 -- "First line: `SHEET n count`, or only `SHEET REFUSED k`."
 first-ends : (n count : ℕ) → OneLine (sheetLine n count)
-first-ends n count = line-feed-last SHEET (decimal n ∷ decimal count ∷ []) (nine-are-words .0) (decimal-is-a-word n, (decimal-is-a-word count, tt))
+first-ends n count = line-feed-last SHEET (decimal n ∷ decimal count ∷ []) (ten-are-words .0) (decimal-is-a-word n, (decimal-is-a-word count, tt))
 
 refused-ends : (why : Refusal) → OneLine (refusedSheet why)
-refused-ends why = line-feed-last SHEET (refusal why) (nine-are-words .0) (refusal-in-words why)
+refused-ends why = line-feed-last SHEET (refusal why) (ten-are-words .0) (refusal-in-words why)
 
 pub text-lines : (sheet : List ℕ) (h : Header) (text : List ℕ) → Prints sheet h text → lineEnds text ≡ linesOf h
 text-lines sheet (Header.Sheet n count) text p =

@@ -10,7 +10,7 @@ use Rattle.table.specs.declared.Answer.{Answer}
 use Rattle.routes.specs.declared.Found.{Found}
 use Rattle.printed.specs.Text.{sheetLine, refusedSheet, fileLine, withdrawLine, routeLine, faultLine}
 
--- 01's output of "Example, n = 3, eleven actions"; then "only `SHEET REFUSED k`", a layout fault, and numbers as large as they come
+-- 01's output of "Example, n = 3, eleven actions", in which a "line becomes `ROUTE 1 0 NONE 0 BY 8`" by document 02, §2; then "only `SHEET REFUSED k`", a layout fault, and numbers as large as they come
 pub example-lines :
     sheetLine 3 11
     ∷ routeLine 3 1 0 (Found.Tag 0)
@@ -21,13 +21,14 @@ pub example-lines :
     ∷ routeLine 3 1 0 (Found.Tag 8)
     ∷ fileLine 9 (Answer.Refused Refusal.Wide)
     ∷ fileLine 10 Answer.Done
-    ∷ routeLine 3 1 0 (Found.None 0)
+    ∷ routeLine 3 1 0 (Found.None 0 8)
     ∷ withdrawLine 9 (Answer.Refused Refusal.Absent)
     ∷ routeLine 3 8 0 (Found.Refused Refusal.Label)
     ∷ refusedSheet Refusal.Mark
     ∷ faultLine Refusal.Layout
     ∷ sheetLine 12 4096
     ∷ routeLine 12 0 4095 (Found.Tag 4095)
+    ∷ routeLine 12 4095 4094 (Found.None 11 65535)
     ∷ []
     ≡ ascii "SHEET 3 11\n"
     ∷ ascii "ROUTE 1 0 TAG 000000\n"
@@ -38,13 +39,14 @@ pub example-lines :
     ∷ ascii "ROUTE 1 0 TAG 000100\n"
     ∷ ascii "FILE 9 REFUSED 6\n"
     ∷ ascii "FILE 10 OK\n"
-    ∷ ascii "ROUTE 1 0 NONE 0\n"
+    ∷ ascii "ROUTE 1 0 NONE 0 BY 8\n"
     ∷ ascii "WITHDRAW 9 REFUSED 9\n"
     ∷ ascii "ROUTE 8 0 REFUSED 10\n"
     ∷ ascii "SHEET REFUSED 14\n"
     ∷ ascii "ACTION REFUSED 2\n"
     ∷ ascii "SHEET 12 4096\n"
     ∷ ascii "ROUTE 0 4095 TAG 111111111111000000000000\n"
+    ∷ ascii "ROUTE 4095 4094 NONE 11 BY 65535\n"
     ∷ []
 unfolding decimalIn bitsFrom
 example-lines = refl

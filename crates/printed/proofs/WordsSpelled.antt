@@ -10,12 +10,12 @@ use lib.Dec.{leb}
 use Rattle.table.specs.declared.Refusal.{Refusal}
 use Rattle.table.specs.Numbers.{numberOf}
 use Rattle.table.proofs.Checks.{both-hold}
-use Rattle.printed.specs.Words.{ascii, decimal, bitsFrom, tagBits, SHEET, FILE, WITHDRAW, ROUTE, ACTION, OK, REFUSED, TAG, NONE, ending, line, refusal}
+use Rattle.printed.specs.Words.{ascii, decimal, bitsFrom, tagBits, SHEET, FILE, WITHDRAW, ROUTE, ACTION, OK, REFUSED, TAG, NONE, BY, ending, line, refusal}
 use Rattle.printed.proofs.Decimals.{decimal-one, decimal-more}
 
 pub words-spelled :
-    SHEET ∷ FILE ∷ WITHDRAW ∷ ROUTE ∷ ACTION ∷ OK ∷ REFUSED ∷ TAG ∷ NONE ∷ []
-    ≡ ascii "SHEET" ∷ ascii "FILE" ∷ ascii "WITHDRAW" ∷ ascii "ROUTE" ∷ ascii "ACTION" ∷ ascii "OK" ∷ ascii "REFUSED" ∷ ascii "TAG" ∷ ascii "NONE" ∷ []
+    SHEET ∷ FILE ∷ WITHDRAW ∷ ROUTE ∷ ACTION ∷ OK ∷ REFUSED ∷ TAG ∷ NONE ∷ BY ∷ []
+    ≡ ascii "SHEET" ∷ ascii "FILE" ∷ ascii "WITHDRAW" ∷ ascii "ROUTE" ∷ ascii "ACTION" ∷ ascii "OK" ∷ ascii "REFUSED" ∷ ascii "TAG" ∷ ascii "NONE" ∷ ascii "BY" ∷ []
 words-spelled = refl
 
 -- every byte of a text lies in these bounds
@@ -71,7 +71,7 @@ decimal-is-a-word x = wider 48 57 33 126 (omega arith) (omega arith) (decimal x)
 pub bits-are-a-word : (n tag : ℕ) → Word (tagBits n tag)
 bits-are-a-word n tag = wider 48 49 33 126 (omega arith) (omega arith) (tagBits n tag) (bits-digits 0 (2 * n) tag)
 
--- and so are the nine, by a test of each letter
+-- and so are the ten, by a test of each letter
 abbrev letters : List ℕ → Bool
 letters [] = true
 letters (c ∷ cs) = leb 33 c && leb c 126 && letters cs
@@ -93,8 +93,8 @@ letters-of-words (w ∷ ws) e =
     let h = both-hold (letters w) (lettersAlone ws) .0 e in
     (letters-of-a-word w (h .0), letters-of-words ws (h .1))
 
-pub nine-are-words : Words (SHEET ∷ FILE ∷ WITHDRAW ∷ ROUTE ∷ ACTION ∷ OK ∷ REFUSED ∷ TAG ∷ NONE ∷ [])
-nine-are-words = letters-of-words (SHEET ∷ FILE ∷ WITHDRAW ∷ ROUTE ∷ ACTION ∷ OK ∷ REFUSED ∷ TAG ∷ NONE ∷ []) refl
+pub ten-are-words : Words (SHEET ∷ FILE ∷ WITHDRAW ∷ ROUTE ∷ ACTION ∷ OK ∷ REFUSED ∷ TAG ∷ NONE ∷ BY ∷ [])
+ten-are-words = letters-of-words (SHEET ∷ FILE ∷ WITHDRAW ∷ ROUTE ∷ ACTION ∷ OK ∷ REFUSED ∷ TAG ∷ NONE ∷ BY ∷ []) refl
 
 -- one line: "LF at each end", and nowhere else
 pub record OneLine (text : List ℕ) : Type 0 where

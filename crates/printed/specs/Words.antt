@@ -62,6 +62,9 @@ TAG = 84 ∷ 65 ∷ 71 ∷ []
 abbrev pub NONE : List ℕ
 NONE = 78 ∷ 79 ∷ 78 ∷ 69 ∷ []
 
+abbrev pub BY : List ℕ
+BY = 66 ∷ 89 ∷ []
+
 -- the rest of a line after its first word: a blank before each word, and "LF at each end". `line-of-one` and `line-of-more` say what
 -- a line is, and `line-feed-last` that it has no other LF.
 abbrev pub ending : List (List ℕ) → List ℕ

@@ -19,19 +19,19 @@ use Rattle.changes.proofs.Since.{stands-exactly}
 use Rattle.book.proofs.Stoppers.{stopper-none}
 use Rattle.promises.specs.Clearness.{UnnamedSince}
 
-module _ (n : ℕ) (legal : outsideSizes n ≡ false) (changes : List Change) (s : ℕ) (cs : List ℕ) where
+module _ (n : ℕ) (legal : outsideSizes n ≡ false) (changes : List Change) where
   abbrev end : Book
   end = run changes (opened n)
 
-  good : Good n end
+  pub good : Good n end
   good = good-run n changes (opened n) (rw (opened-is n legal) (opened-good n))
 
   -- the book's rule is that of its size
   rule : (i j c : ℕ) → stopsOf end i j c ≡ stopper n (standing end) i j c
   rule i j c = ap (λ (m : ℕ). stopper m (standing end) i j c) (ap (λ (b : Book). b .n) (good .whole))
 
-  pub clear-since : Clear n (stopsOf end) s cs ↔ UnnamedSince n changes s cs
-  clear-since = (
+  pub clear-since : (s : ℕ) (cs : List ℕ) → Clear n (stopsOf end) s cs ↔ UnnamedSince n changes s cs
+  clear-since s cs = (
     (λ clear k h x since named.
         stopper-none n k (switchAt n s cs k) (getD cs k 0) (standing end) (good .filed) .0
         (sym (rule k (switchAt n s cs k) (getD cs k 0)) ∙ clear k h)

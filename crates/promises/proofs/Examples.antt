@@ -31,6 +31,7 @@ use Rattle.routes.specs.declared.Found.{Found}
 use Rattle.routes.specs.Routed.{Routed, routeChecks, Routes}
 use Rattle.routes.proofs.Entries.{route-passes}
 use Rattle.promises.specs.Examples.{Example, Claim, examples, AllHold}
+use Rattle.crossing.proofs.Least.{lesserOf}
 use Rattle.promises.proofs.Found.{answerFrom, routeOf, route-of}
 
 passing : List Check → Bool
@@ -58,21 +59,21 @@ same-list (x ∷ xs) (y ∷ ys) e =
 
 sameFound : Found → Found → Bool
 sameFound (Found.Tag t) (Found.Tag u) = eqb t u
-sameFound (Found.Tag t) (Found.None j) = false
+sameFound (Found.Tag t) (Found.None j m) = false
 sameFound (Found.Tag t) (Found.Refused r) = false
-sameFound (Found.None i) (Found.Tag u) = false
-sameFound (Found.None i) (Found.None j) = eqb i j
-sameFound (Found.None i) (Found.Refused r) = false
+sameFound (Found.None i k) (Found.Tag u) = false
+sameFound (Found.None i k) (Found.None j m) = eqb i j && eqb k m
+sameFound (Found.None i k) (Found.Refused r) = false
 sameFound (Found.Refused q) b = false
 
 same-found : (a b : Found) → sameFound a b ≡ true → a ≡ b
 unfolding sameFound
 same-found (Found.Tag t) (Found.Tag u) e = ap Found.Tag (eqb-true t u e)
-same-found (Found.Tag t) (Found.None j) e = absurd (false≢true e)
+same-found (Found.Tag t) (Found.None j m) e = absurd (false≢true e)
 same-found (Found.Tag t) (Found.Refused r) e = absurd (false≢true e)
-same-found (Found.None i) (Found.Tag u) e = absurd (false≢true e)
-same-found (Found.None i) (Found.None j) e = ap Found.None (eqb-true i j e)
-same-found (Found.None i) (Found.Refused r) e = absurd (false≢true e)
+same-found (Found.None i k) (Found.Tag u) e = absurd (false≢true e)
+same-found (Found.None i k) (Found.None j m) e = let w = both-hold (eqb i j) (eqb k m) .0 e in ap₂ Found.None (eqb-true i j (w .0)) (eqb-true k m (w .1))
+same-found (Found.None i k) (Found.Refused r) e = absurd (false≢true e)
 same-found (Found.Refused q) b e = absurd (false≢true e)
 
 -- whether every change of a run is accepted
@@ -91,14 +92,14 @@ all-accepted (a ∷ rest) b e =
 routing : Book → ℕ → ℕ → Found → Bool
 routing b s d a = passing (routeChecks b s d) && sameFound (routeOf (b .n) (stopsOf b) s d) a
 
-stopping : Book → ℕ → ℕ → ℕ → Bool
-stopping b i j c = passing (linkChecks b i j c) && not (eqb (stopper (b .n) (standing b) i j c) 0)
+stopping : Book → ℕ → ℕ → ℕ → ℕ → Bool
+stopping b i j c k = passing (linkChecks b i j c) && (eqb k (stopper (b .n) (standing b) i j c) && not (eqb k 0))
 
 test : Example → Bool
 test (Example.route n changes s d a) = accepting changes (opened n) && routing (run changes (opened n)) s d a
 test (Example.normal n s tag form) = passing (normalFormChecks n s tag) && eqb form (normalTag n s (stepsOf n s tag))
 test (Example.steps n s tag cs) = passing (tagToStepsChecks n s tag (replicate n 0)) && sameList cs (stepsOf n s tag ++ drop n (replicate n 0))
-test (Example.stopped n changes i j c) = accepting changes (opened n) && stopping (run changes (opened n)) i j c
+test (Example.stopped n changes i j c k) = accepting changes (opened n) && stopping (run changes (opened n)) i j c k
 
 routes-so : (b : Book) (s d : ℕ) (a : Found) → routing b s d a ≡ true → Routes b s d a
 unfolding routing
@@ -110,11 +111,12 @@ routes-so b s d a e =
     (subst (Routed (b .n) (stopsOf b) s d) (same-found (routeOf (b .n) (stopsOf b) s d) a (w .1))
     (route-of (b .n) (stopsOf b) s d (leb-false (size (b .n)) s (o .0)) (leb-false (size (b .n)) d (o .1))))
 
-stopped-so : (b : Book) (i j c : ℕ) → stopping b i j c ≡ true → Tests b i j c Link.Stopped
+stopped-so : (b : Book) (i j c k : ℕ) → stopping b i j c k ≡ true → Tests b i j c (Link.Stopped k)
 unfolding stopping
-stopped-so b i j c e =
-    let w = both-hold (passing (linkChecks b i j c)) (not (eqb (stopper (b .n) (standing b) i j c) 0)) .0 e in
-    link-stopped b i j c refl (eqb-false (stopper (b .n) (standing b) i j c) 0 (not-true _ (w .1))) (passing-passes (linkChecks b i j c) (w .0))
+stopped-so b i j c k e =
+    let w = both-hold (passing (linkChecks b i j c)) (eqb k (stopper (b .n) (standing b) i j c) && not (eqb k 0)) .0 e in
+    let v = both-hold (eqb k (stopper (b .n) (standing b) i j c)) (not (eqb k 0)) .0 (w .1) in
+    link-stopped b i j c (eqb-true k (stopper (b .n) (standing b) i j c) (v .0)) (eqb-false k 0 (not-true _ (v .1))) (passing-passes (linkChecks b i j c) (w .0))
 
 row : (e : Example) → test e ≡ true → Claim e
 unfolding test
@@ -127,9 +129,9 @@ row (Example.normal n s tag form) e =
 row (Example.steps n s tag cs) e =
     let w = both-hold (passing (tagToStepsChecks n s tag (replicate n 0))) (sameList cs (stepsOf n s tag ++ drop n (replicate n 0))) .0 e in
     to-steps-accepts (passing-passes (tagToStepsChecks n s tag (replicate n 0)) (w .0)) (same-list cs (stepsOf n s tag ++ drop n (replicate n 0)) (w .1))
-row (Example.stopped n changes i j c) e =
-    let w = both-hold (accepting changes (opened n)) (stopping (run changes (opened n)) i j c) .0 e in
-    (all-accepted changes (opened n) (w .0), stopped-so (run changes (opened n)) i j c (w .1))
+row (Example.stopped n changes i j c k) e =
+    let w = both-hold (accepting changes (opened n)) (stopping (run changes (opened n)) i j c k) .0 e in
+    (all-accepted changes (opened n) (w .0), stopped-so (run changes (opened n)) i j c k (w .1))
 
 every : List Example → Bool
 every [] = true
@@ -141,7 +143,7 @@ all-rows [] e = tt
 all-rows (x ∷ es) e = let w = both-hold (test x) (every es) .0 e in (row x (w .0), all-rows es (w .1))
 
 tested : every examples ≡ true
-unfolding every test routing stopping accepting passing sameFound sameList run lowest some inPlaces insert those misfiled littered ones steered statesOf walked high through lesser advanced mirrored answerFrom
+unfolding every test routing stopping accepting passing sameFound sameList run lowest some inPlaces insert those misfiled littered ones steered statesOf walked high through lesser advanced mirrored lesserOf answerFrom
 tested = refl
 
 -- the thirteen examples

@@ -1,5 +1,5 @@
 -- Each kind of controller that Worthless.antt excludes has one of that kind: what is excluded is not nothing. The idle controller says
--- done to every change, keeps none, finds every link clear and answers 11 with stage 0 to every route.
+-- done to every change, keeps none, finds every link clear and answers 11 with stage 0 and number 1 to every route.
 use mathlib.Core.Path.{_≡_, refl, subst}
 use mathlib.Core.Bool.{true, false}
 use mathlib.Core.List.{List, [], _∷_, _++_}
@@ -29,14 +29,14 @@ answering answer =
       answers = λ a b. answer;
       leaves = λ a b. b;
       link = λ b i j c. Link.Clear;
-      route = λ b s d. Found.None 0;
+      route = λ b s d. Found.None 0 1;
     }
 
 abbrev idle : Controller Book
 idle = answering Answer.Done
 
 pub some-says-eleven-always : SaysElevenAlways idle
-some-says-eleven-always b s d p = (0, refl)
+some-says-eleven-always b s d p = (0, 1, refl)
 
 pub some-gives-tag-zero-always : GivesTagZeroAlways idle
 some-gives-tag-zero-always b s d t e = absurd (zero-one cc)
@@ -49,6 +49,7 @@ some-invents-a-stage =
       source = 1;
       destination = 0;
       stage = 0;
+      number = 1;
       answers = refl;
       invented = λ w. w .none (2 ∷ []) (record { links = refl; codes = (omega arith, tt); clear = λ k h. refl; agrees = refl });
     }
@@ -63,7 +64,7 @@ pub some-gives-up : GivesUp idle
 some-gives-up =
     let right = row-holds 0 .1 in
     let first = right .routes (tag-passed empty 1 0 0 right) in
-    record { book = empty; source = 1; destination = 0; stage = 0; answers = refl; steps = first .0; clear = first .1 .clearPath }
+    record { book = empty; source = 1; destination = 0; stage = 0; number = 1; answers = refl; steps = first .0; clear = first .1 .clearPath }
 
 -- two notices of one switch of a fabric of one stage, the first of its plus link and the second of both its nonstraight links
 abbrev plus : Notice
@@ -78,7 +79,7 @@ not-in-none (c ∷ l) a m e = zero-one cc
 
 -- nothing is named before a filing, and after one filing what it names
 unnamed-at-first : (i j c : ℕ) → Named idle 1 [] i j c → ⊥
-unnamed-at-first i j c w = not-in-none (w .1 .before) (Change.file (w .0)) (w .1 .later) (w .1 .order)
+unnamed-at-first i j c w = not-in-none (w .1 .0 .before) (Change.file (w .0)) (w .1 .0 .later) (w .1 .0 .order)
 
 only-plus : (x : Notice) (before later : List Change) → Change.file plus ∷ [] ≡ before ++ Change.file x ∷ later → x ≡ plus
 only-plus x [] later e = cc
@@ -86,8 +87,8 @@ only-plus x (c ∷ before) later e = absurd (not-in-none before (Change.file x) 
 
 minus-unnamed : Named idle 1 (Change.file plus ∷ []) 0 0 2 → ⊥
 minus-unnamed w =
-    let e = only-plus (w .0) (w .1 .before) (w .1 .later) (w .1 .order) in
-    let f : false ≡ true = subst (λ (x : Notice). names 1 x 0 0 2 ≡ true) e (w .2) in
+    let e = only-plus (w .0) (w .1 .0 .before) (w .1 .0 .later) (w .1 .0 .order) in
+    let f : false ≡ true = subst (λ (x : Notice). names 1 x 0 0 2 ≡ true) e (w .1 .1) in
     zero-one cc
 
 plus-holds : Holds idle 1 (Change.file plus ∷ []) plus
@@ -110,7 +111,7 @@ some-files-nothing =
             names = refl;
             unnamed = unnamed-at-first 0 0 1;
           };
-      nothing = λ b x i j c. refl;
+      nothing = λ b x i j c. ((λ e. e), λ e. e);
     }
 
 pub some-stores-the-first-only : StoresTheFirstOnly idle
@@ -132,7 +133,7 @@ some-stores-the-first-only =
             names = refl;
             unnamed = minus-unnamed;
           };
-      nothing = λ x e i j c. refl;
+      nothing = λ x e i j c. ((λ f. f), λ f. f);
     }
 
 pub some-opens-for-both : OpensForBoth idle
@@ -162,7 +163,7 @@ some-plus-and-minus-one-link =
       changes = Change.file plus ∷ [];
       switch = 0;
       label = omega arith;
-      plus = (plus, plus-holds, refl);
+      plus = (plus, (plus-holds, refl));
       minus = minus-unnamed;
-      one = λ b j. refl;
+      one = λ b j. ((λ e. e), λ e. e);
     }

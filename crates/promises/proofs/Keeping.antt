@@ -6,28 +6,30 @@ use mathlib.Core.List.{List, [], _∷_}
 use mathlib.Core.Logic.{_⊎_, inl, inr, ⊎-elim, _↔_}
 use Prim.Native.Nat.{ℕ}
 use borrow.Author.Tests.{leb-false}
-use lib.Dec.{eqb}
 use Rattle.table.specs.declared.Refusal.{Refusal}
 use Rattle.table.specs.Numbers.{numberOf}
-use Rattle.table.specs.Reply.{Reply, Reply.accepted, refused, answerSays}
+use Rattle.table.specs.Reply.{Reply, refused, answerSays}
 use Rattle.table.specs.Checks.{Check, checked, Given, Given.here, Given.later, _notBelow_}
 use Rattle.table.proofs.Numbers.{byNumber}
-use Rattle.table.proofs.Checks.{given-refuses, passed-accepts, passed-nth, neither}
+use Rattle.table.proofs.Checks.{given-refuses, given-or-passed, passed-accepts, passed-nth, neither}
 use Rattle.fabric.specs.Labels.{size}
 use Rattle.notices.specs.declared.Notice.{Notice}
+use Rattle.standing.specs.Picked.{LowestNumber}
+use Rattle.standing.proofs.Lowest.{lowest-number-as}
 use Rattle.book.specs.declared.Book.{Book}
 use Rattle.table.specs.declared.Answer.{Answer}
 use Rattle.questions.specs.declared.Link.{Link}
 use Rattle.book.specs.Standing.{standing, stopper, stopsOf}
-use Rattle.questions.proofs.Testing.{says-tests}
+use Rattle.questions.proofs.Testing.{answered as byStopper, answers-tests}
+use Rattle.questions.proofs.Answers.{link-refused}
 use Rattle.book.specs.Entries.{opened, fileChecks, withdrawChecks}
-use Rattle.questions.specs.Entries.{linkSays, linkChecks, Tests}
-use Rattle.changes.specs.Runs.{Change, changeChecks, answer, after, Accepted, run, NotWithdrawn, StandsSince}
+use Rattle.questions.specs.Entries.{linkChecks, Tests}
+use Rattle.changes.specs.Runs.{Change, changeChecks, answer, after, Accepted, run, NotWithdrawn, StandsSince, NamesSince}
 use Rattle.table.proofs.Answers.{answer-tells}
 use Rattle.changes.proofs.Since.{link-exactly}
 use Rattle.routes.specs.declared.Found.{Found}
 use Rattle.routes.specs.Routed.{routeSays, Routed, routeChecks, Routes}
-use Rattle.promises.specs.Controllers.{Controller, FilesAsPromised, RoutesAsPromised, Accepts, ownRun, NeverWithdrawn, Holds, Named, StopsWhatIsNamed}
+use Rattle.promises.specs.Controllers.{Controller, FilesAsPromised, RoutesAsPromised, Accepts, ownRun, NeverWithdrawn, Holds, NamesLink, Named, StopsWhatIsNamed}
 use Rattle.promises.proofs.Found.{routeOf, route-of}
 
 -- every number of the checks is that of a refusal
@@ -55,7 +57,7 @@ answered cs = checked cs (λ k. Answer.Refused (byNumber k)) Answer.Done
 
 -- what the link test says past its checks
 abbrev told : Book → ℕ → ℕ → ℕ → Link
-told b i j c = cond (eqb (stopper (b .n) (standing b) i j c) 0) Link.Clear Link.Stopped
+told b i j c = byStopper (stopper (b .n) (standing b) i j c)
 
 abbrev ours : Controller Book
 ours =
@@ -66,13 +68,6 @@ ours =
       link = λ b i j c. checked (linkChecks b i j c) (λ k. Link.Refused (byNumber k)) (told b i j c);
       route = λ b s d. checked (routeChecks b s d) (λ k. Found.Refused (byNumber k)) (routeOf (b .n) (stopsOf b) s d);
     }
-
-told-says : (b : Book) (i j c : ℕ) → linkSays (told b i j c) ≡ accepted (cond (eqb (stopper (b .n) (standing b) i j c) 0) 0 1 ∷ [])
-told-says b i j c = go (eqb (stopper (b .n) (standing b) i j c) 0)
-  where
-    go : (t : Bool) → linkSays (cond t Link.Clear Link.Stopped) ≡ accepted (cond t 0 1 ∷ [])
-    go true = refl
-    go false = refl
 
 routes-so : (b : Book) (s d : ℕ) → Routes b s d (ours .route b s d)
 routes-so b s d =
@@ -94,9 +89,15 @@ change-says (Change.withdraw k) b = says-checked answerSays Answer.Refused (λ r
 
 tests-so : (b : Book) (i j c : ℕ) → Tests b i j c (ours .link b i j c)
 tests-so b i j c =
-    says-tests b i j c (ours .link b i j c)
-    (says-checked linkSays Link.Refused (λ r. refl) (told b i j c) (linkChecks b i j c) (refl, (refl, (refl, tt)))
-    ∙ ap (λ (r : Reply). checked (linkChecks b i j c) refused r) (told-says b i j c))
+    let cs : List Check = linkChecks b i j c in
+    let no : ℕ → Link = λ k. Link.Refused (byNumber k) in
+    ⊎-elim
+    (λ g.
+    let why : Refusal = byNumber (g .0) in
+    let e = known-given cs (refl, (refl, (refl, tt))) (g .1) in
+    subst (Tests b i j c) (sym (given-refuses no (told b i j c) (g .0) cs (g .1))) (link-refused b i j c why (subst (λ (k : ℕ). Given k cs) (sym e) (g .1))))
+    (λ p. answers-tests b i j c (ours .link b i j c) p (passed-accepts no (told b i j c) cs p))
+    (given-or-passed cs)
 
 -- its own runs are those of demand 3: what it accepts is what the entries accept
 accepts-so : (a : Change) (b : Book) → Accepts ours a b ↔ Accepted a b
@@ -141,13 +142,19 @@ holds-so n changes x = (
       }),
 )
 
+names-so : (n : ℕ) (changes : List Change) (i j c : ℕ) (x : Notice) → NamesLink ours n changes i j c x ↔ NamesSince n changes i j c x
+names-so n changes i j c x = ((λ w. (holds-so n changes x .0 (w .0), w .1)), (λ w. (holds-so n changes x .1 (w .0), w .1)))
+
 stops-so : StopsWhatIsNamed ours
 stops-so n legal changes i j c link =
-    subst (λ (b : Book). ((ours .link b i j c ≡ Link.Clear) × (Named ours n changes i j c → ⊥)) ⊎ ((ours .link b i j c ≡ Link.Stopped) × Named ours n changes i j c))
+    subst
+    (λ (b : Book).
+    ((ours .link b i j c ≡ Link.Clear) × (Named ours n changes i j c → ⊥))
+    ⊎ ((k : ℕ) × (ours .link b i j c ≡ Link.Stopped k) × LowestNumber (NamesLink ours n changes i j c) k))
     (sym (runs-so changes (opened n)))
     (⊎-elim
-    (λ w. inl (w .0, λ v. w .1 (v .0, holds-so n changes (v .0) .0 (v .1), v .2)))
-    (λ w. inr (w .0, (w .1 .0, holds-so n changes (w .1 .0) .1 (w .1 .1), w .1 .2)))
+    (λ w. inl (w .0, λ v. w .1 (v .0, names-so n changes i j c (v .0) .0 (v .1))))
+    (λ w. inr (w .0, w .1, lowest-number-as (λ x. names-so n changes i j c x .1) (λ x. names-so n changes i j c x .0) (w .2)))
     (link-exactly n legal changes i j c (link .0) (link .1) (link .2) (ours .link (run changes (opened n)) i j c) (tests-so (run changes (opened n)) i j c)))
 
 pub some-controller-meets-all : (c : Controller Book) × FilesAsPromised c × RoutesAsPromised c × StopsWhatIsNamed c

@@ -30,8 +30,8 @@ use Rattle.promises.specs.Controllers.{Controller, FilesAsPromised, Rout
 use Rattle.promises.proofs.Examples.{row-holds}
 
 -- a route that names a stage has passed 16 and 10
-none-routed : (b : Book) (s d i : ℕ) → Routes b s d (Found.None i) → Routed (b .n) (stopsOf b) s d (Found.None i)
-none-routed b s d i p = ⊎-elim (λ g. let e = p .refuses (g .0) (g .1) in absurd (zero-one cc)) (p .routes) (given-or-passed (routeChecks b s d))
+none-routed : (b : Book) (s d i k : ℕ) → Routes b s d (Found.None i k) → Routed (b .n) (stopsOf b) s d (Found.None i k)
+none-routed b s d i k p = ⊎-elim (λ g. let e = p .refuses (g .0) (g .1) in absurd (zero-one cc)) (p .routes) (given-or-passed (routeChecks b s d))
 
 pub tag-passed : (b : Book) (s d t : ℕ) → Routes b s d (Found.Tag t) → Passed (routeChecks b s d)
 tag-passed b s d t p = ⊎-elim (λ g. let e = p .refuses (g .0) (g .1) in absurd (zero-one cc)) (λ w. w) (given-or-passed (routeChecks b s d))
@@ -47,7 +47,7 @@ module _ (c : Controller Book) (routes : RoutesAsPromised c) where
   not-eleven-always says =
       let right = row-holds 0 .1 in
       let e = says empty 1 0 (tag-passed empty 1 0 0 right) in
-      let f : Found.None (e .0) ≡ Found.Tag 0 = sym (e .1) ∙ route-once empty 1 0 _ _ (routes empty 1 0) right in
+      let f : Found.None (e .0) (e .1) ≡ Found.Tag 0 = sym (e .2) ∙ route-once empty 1 0 _ _ (routes empty 1 0) right in
       zero-one cc
 
   -- "one that gives tag 0 always"
@@ -60,7 +60,7 @@ module _ (c : Controller Book) (routes : RoutesAsPromised c) where
   -- "one that names an invented stage"
   pub not-an-invented-stage : InventsAStage c → ⊥
   not-an-invented-stage w =
-      w .invented (none-routed (w .book) (w .source) (w .destination) (w .stage) (subst (Routes (w .book) (w .source) (w .destination)) (w .answers) (routes _ _ _)) .1)
+      w .invented (none-routed (w .book) (w .source) (w .destination) (w .stage) (w .number) (subst (Routes (w .book) (w .source) (w .destination)) (w .answers) (routes _ _ _)) .1)
 
   -- "Taking the spare link only where the stopped one starts. A stopped straight link needs an earlier turn.": examples 1 and 6 turn
   -- at switch 1 of stage 0, whose own links are clear in both
@@ -76,7 +76,7 @@ module _ (c : Controller Book) (routes : RoutesAsPromised c) where
   -- "Answering 'none' after the first failed turn back."
   pub not-giving-up : GivesUp c → ⊥
   not-giving-up w =
-      none-routed (w .book) (w .source) (w .destination) (w .stage) (subst (Routes (w .book) (w .source) (w .destination)) (w .answers) (routes _ _ _)) .0 (w .steps) (w .clear)
+      none-routed (w .book) (w .source) (w .destination) (w .stage) (w .number) (subst (Routes (w .book) (w .source) (w .destination)) (w .answers) (routes _ _ _)) .0 (w .steps) (w .clear)
 
 -- by demand 1 with the table: "one that refuses every filing"
 pub not-every-filing-refused : (c : Controller Book) → FilesAsPromised c → RefusesEveryFiling c → ⊥
@@ -94,18 +94,18 @@ module _ {B : Type 0} (c : Controller B) (meets : StopsWhatIsNamed c) where
   own-on [] later b = refl
   own-on (a ∷ rest) later b = own-on rest later (c .leaves a b)
 
-  -- what is named is stopped, and what is not is clear
+  -- no link is both clear and stopped
+  apart : {r : Link} {k : ℕ} → r ≡ Link.Clear → r ≡ Link.Stopped k → ⊥
+  apart e f = zero-one cc
+
+  -- what is named is not clear, and what is not is clear
   named-stopped : (n : ℕ) → outsideSizes n ≡ false → (changes : List Change) (i j code : ℕ) → IsLink c n i j code → Named c n changes i j code
-      → c .link (ended c n changes) i j code ≡ Link.Stopped
-  named-stopped n legal changes i j code link w = ⊎-elim (λ p. absurd (p .1 w)) (λ p. p .0) (meets n legal changes i j code link)
+      → c .link (ended c n changes) i j code ≡ Link.Clear → ⊥
+  named-stopped n legal changes i j code link w e = ⊎-elim (λ p. p .1 w) (λ p. apart e (p .1)) (meets n legal changes i j code link)
 
   unnamed-clear : (n : ℕ) → outsideSizes n ≡ false → (changes : List Change) (i j code : ℕ) → IsLink c n i j code → (Named c n changes i j code → ⊥)
       → c .link (ended c n changes) i j code ≡ Link.Clear
-  unnamed-clear n legal changes i j code link h = ⊎-elim (λ p. p .0) (λ p. absurd (h (p .1))) (meets n legal changes i j code link)
-
-  -- no link is both
-  apart : {r : Link} → r ≡ Link.Clear → r ≡ Link.Stopped → ⊥
-  apart e f = zero-one cc
+  unnamed-clear n legal changes i j code link h = ⊎-elim (λ p. p .0) (λ p. absurd (h (p .2 .notice, p .2 .among))) (meets n legal changes i j code link)
 
   -- a filing that is accepted after a run stands
   filed-holds : (n : ℕ) (changes : List Change) (x : Notice) → Accepts c (Change.file x) (ended c n changes) → Holds c n (changes ++ Change.file x ∷ []) x
@@ -118,11 +118,9 @@ module _ {B : Type 0} (c : Controller B) (meets : StopsWhatIsNamed c) where
   unfolding ownRun
   filing-shows n legal changes x w same =
       let then : ended c n (changes ++ Change.file x ∷ []) ≡ c .leaves (Change.file x) (ended c n changes) = own-on changes (Change.file x ∷ []) (c .opens n) in
-      apart
+      named-stopped n legal (changes ++ Change.file x ∷ []) (w .stage) (w .switch) (w .code) (w .link) (x, (filed-holds n changes x (w .accepts), w .names))
       (ap (λ (b : B). c .link b (w .stage) (w .switch) (w .code)) then
-      ∙ same (w .stage) (w .switch) (w .code)
-      ∙ unnamed-clear n legal changes (w .stage) (w .switch) (w .code) (w .link) (w .unnamed))
-      (named-stopped n legal (changes ++ Change.file x ∷ []) (w .stage) (w .switch) (w .code) (w .link) (x, filed-holds n changes x (w .accepts), w .names))
+      ∙ same (w .stage) (w .switch) (w .code) .1 (unnamed-clear n legal changes (w .stage) (w .switch) (w .code) (w .link) (w .unnamed)))
 
   -- "one whose filings change nothing"
   pub not-filing-nothing : FilesNothing c → ⊥
@@ -152,14 +150,12 @@ module _ {B : Type 0} (c : Controller B) (meets : StopsWhatIsNamed c) where
   pub not-opening-for-both : OpensForBoth c → ⊥
   not-opening-for-both w =
       let a : Change = Change.withdraw (w .number) in
-      apart (w .opens)
-      (named-stopped (w .n) (w .legal) (w .changes ++ a ∷ []) (w .stage) (w .switch) (w .code) (w .link)
-      (w .other, still-holds (w .n) (w .changes) (w .other) a (λ e. w .another cc) (w .stands), w .still))
+      named-stopped (w .n) (w .legal) (w .changes ++ a ∷ []) (w .stage) (w .switch) (w .code) (w .link)
+      (w .other, (still-holds (w .n) (w .changes) (w .other) a (λ e. w .another cc) (w .stands), w .still)) (w .opens)
 
   -- "Plus and minus treated as one link at the last stage."
   pub not-plus-and-minus-one-link : PlusAndMinusOneLink c → ⊥
   not-plus-and-minus-one-link w =
       let n : ℕ = suc (w .last) in
-      apart
-      (w .one (ended c n (w .changes)) (w .switch) ∙ unnamed-clear n (w .legal) (w .changes) (w .last) (w .switch) 2 (omega arith, w .label, omega arith) (w .minus))
-      (named-stopped n (w .legal) (w .changes) (w .last) (w .switch) 1 (omega arith, w .label, omega arith) (w .plus))
+      named-stopped n (w .legal) (w .changes) (w .last) (w .switch) 1 (omega arith, w .label, omega arith) (w .plus)
+      (w .one (ended c n (w .changes)) (w .switch) .1 (unnamed-clear n (w .legal) (w .changes) (w .last) (w .switch) 2 (omega arith, w .label, omega arith) (w .minus)))

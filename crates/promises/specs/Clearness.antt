@@ -1,10 +1,11 @@
--- Demand 2's 'stopped' is demand 3's: the links that the notices of a run stop, said of a walk.
+-- Demand 2's 'stopped' is demand 3's: the links that the notices of a run stop, said of a walk and of the ways onward.
 use mathlib.Core.Path.{_≡_}
 use mathlib.Core.Bool.{true}
 use mathlib.Core.List.{List}
 use Prim.Native.Nat.{ℕ, _<_}
 use lib.ListN.{length, getD}
 use Rattle.fabric.specs.Walks.{switchAt}
+use Rattle.paths.specs.Ways.{WayBy}
 use Rattle.notices.specs.declared.Notice.{Notice}
 use Rattle.notices.specs.Notices.{names}
 use Rattle.book.specs.Entries.{opened}
@@ -14,3 +15,9 @@ use Rattle.changes.specs.Runs.{Change, StandsSince}
 abbrev pub UnnamedSince : ℕ → List Change → ℕ → List ℕ → Type 0
 UnnamedSince n changes s cs =
     (k : ℕ) → k < length cs → (x : Notice) → StandsSince (opened n) changes x → names n x k (switchAt n s cs k) (getD cs k 0) ≡ true → ⊥
+
+-- Document 02, §2, "Demand 3 covers the new number": a notice that was accepted in a run and not withdrawn since stops a way onward at stage i, from a switch
+-- that a walk reaches of which no such notice names a link. `route-number-since` (proofs/Numbers.antt) says that a route names the lowest number of one.
+abbrev pub StopsAWaySince : ℕ → List Change → ℕ → ℕ → ℕ → Notice → Type 0
+StopsAWaySince n changes s d i x =
+    StandsSince (opened n) changes x × ((j : ℕ) × (c : ℕ) × WayBy (UnnamedSince n changes s) n s d i j c × (names n x i j c ≡ true))

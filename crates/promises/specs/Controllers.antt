@@ -3,7 +3,7 @@
 use mathlib.Core.Path.{_≡_}
 use mathlib.Core.Bool.{true, false}
 use mathlib.Core.List.{List, [], _∷_, _++_}
-use mathlib.Core.Logic.{_⊎_}
+use mathlib.Core.Logic.{_⊎_, _↔_}
 use Prim.Native.Nat.{ℕ, suc, _<_}
 use lib.ListN.{getD}
 use Rattle.table.specs.declared.Refusal.{Refusal}
@@ -15,6 +15,7 @@ use Rattle.scheme.specs.Tags.{stepsOf}
 use Rattle.paths.specs.Clear.{ClearPath, StageNamed}
 use Rattle.notices.specs.declared.Notice.{Notice}
 use Rattle.notices.specs.Notices.{names}
+use Rattle.standing.specs.Picked.{LowestNumber}
 use Rattle.book.specs.declared.Book.{Book}
 use Rattle.table.specs.declared.Answer.{Answer}
 use Rattle.questions.specs.declared.Link.{Link}
@@ -42,7 +43,7 @@ RoutesAsPromised c = (b : Book) (s d : ℕ) → Routes b s d (c .route b s d)
 
 -- "one that says 11 to every route": every one that 16 and 10 let through
 abbrev pub SaysElevenAlways : Controller Book → Type 0
-SaysElevenAlways c = (b : Book) (s d : ℕ) → Passed (routeChecks b s d) → (i : ℕ) × (c .route b s d ≡ Found.None i)
+SaysElevenAlways c = (b : Book) (s d : ℕ) → Passed (routeChecks b s d) → (i : ℕ) × (k : ℕ) × (c .route b s d ≡ Found.None i k)
 
 -- "one that gives tag 0 always"
 abbrev pub GivesTagZeroAlways : Controller Book → Type 0
@@ -54,7 +55,8 @@ pub record InventsAStage (c : Controller Book) : Type 0 where
   pub source : ℕ
   pub destination : ℕ
   pub stage : ℕ
-  pub answers : c .route book source destination ≡ Found.None stage
+  pub number : ℕ
+  pub answers : c .route book source destination ≡ Found.None stage number
   pub invented : StageNamed (book .n) (stopsOf book) source destination stage → ⊥
 
 -- "one that refuses every filing"
@@ -78,7 +80,8 @@ pub record GivesUp (c : Controller Book) : Type 0 where
   pub source : ℕ
   pub destination : ℕ
   pub stage : ℕ
-  pub answers : c .route book source destination ≡ Found.None stage
+  pub number : ℕ
+  pub answers : c .route book source destination ≡ Found.None stage number
   pub steps : List ℕ
   pub clear : ClearPath (book .n) (stopsOf book) source destination steps
 
@@ -108,23 +111,27 @@ module _ {B : Type 0} (c : Controller B) where
     pub accepted : Accepts (Change.file x) (ended n before)
     pub kept : NeverWithdrawn (x .number) later (c .leaves (Change.file x) (ended n before))
 
-  -- such a notice names the link
+  -- such a notice names the link, and some such notice does
+  abbrev pub NamesLink : ℕ → List Change → ℕ → ℕ → ℕ → Notice → Type 0
+  NamesLink n changes i j code x = Holds n changes x × (names n x i j code ≡ true)
+
   abbrev pub Named : ℕ → List Change → ℕ → ℕ → ℕ → Type 0
-  Named n changes i j code = (x : Notice) × Holds n changes x × (names n x i j code ≡ true)
+  Named n changes i j code = (x : Notice) × NamesLink n changes i j code x
 
   -- a link of a fabric of n stages
   abbrev pub IsLink : ℕ → ℕ → ℕ → ℕ → Type 0
   IsLink n i j code = (i < n) × (j < size n) × Code code
 
   -- "After any run of filings and withdrawals from an empty book, refused ones among them, the stopped links are exactly those named by
-  -- notices accepted and not withdrawn since"
+  -- notices accepted and not withdrawn since"; document 02, §2: with "the lowest number among the notices that stop the link"
   abbrev pub StopsWhatIsNamed : Type 0
   StopsWhatIsNamed = (n : ℕ) → outsideSizes n ≡ false → (changes : List Change) (i j code : ℕ) → IsLink n i j code
-      → ((c .link (ended n changes) i j code ≡ Link.Clear) × (Named n changes i j code → ⊥)) ⊎ ((c .link (ended n changes) i j code ≡ Link.Stopped) × Named n changes i j code)
+      → ((c .link (ended n changes) i j code ≡ Link.Clear) × (Named n changes i j code → ⊥))
+      ⊎ ((k : ℕ) × (c .link (ended n changes) i j code ≡ Link.Stopped k) × LowestNumber (NamesLink n changes i j code) k)
 
-  -- Every link tests alike in two books.
+  -- every link is clear in both of two books, or in neither: `same-links-itself`, `same-links-back` (proofs/Wide.antt)
   abbrev pub SameLinks : B → B → Type 0
-  SameLinks a b = (i j code : ℕ) → c .link a i j code ≡ c .link b i j code
+  SameLinks a b = (i j code : ℕ) → (c .link a i j code ≡ Link.Clear) ↔ (c .link b i j code ≡ Link.Clear)
 
   -- after a run it accepts a filing that names a link which no notice named before
   pub record AcceptsAfter (n : ℕ) (changes : List Change) (x : Notice) : Type 0 where
@@ -171,7 +178,8 @@ module _ {B : Type 0} (c : Controller B) where
     pub still : names n other stage switch code ≡ true
     pub opens : c .link (ended n (changes ++ Change.withdraw number ∷ [])) stage switch code ≡ Link.Clear
 
-  -- "Plus and minus treated as one link at the last stage.": although it accepts a filing of plus alone
+  -- "Plus and minus treated as one link at the last stage.": although it accepts a filing of plus alone. Any two that test alike there are one link,
+  -- `alike-is-one-link`, and one link is clear in both or in neither, `one-link-alike` (proofs/Wide.antt).
   pub record PlusAndMinusOneLink : Type 0 where
     pub last : ℕ
     pub legal : outsideSizes (suc last) ≡ false
@@ -180,4 +188,4 @@ module _ {B : Type 0} (c : Controller B) where
     pub label : switch < size (suc last)
     pub plus : Named (suc last) changes last switch 1
     pub minus : Named (suc last) changes last switch 2 → ⊥
-    pub one : (b : B) (j : ℕ) → c .link b last j 1 ≡ c .link b last j 2
+    pub one : (b : B) (j : ℕ) → (c .link b last j 1 ≡ Link.Clear) ↔ (c .link b last j 2 ≡ Link.Clear)

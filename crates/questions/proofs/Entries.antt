@@ -3,9 +3,8 @@ use mathlib.Core.Path.{_≡_, refl, sym, ap, _∙_}
 use mathlib.Core.Bool.{true, false}
 use mathlib.Core.List.{List, [], _∷_, _++_}
 use mathlib.Core.Logic.{_⊎_, inl, inr, _↔_}
-use Prim.Native.Nat.{ℕ, _*_, _≤_, _<_}
+use Prim.Native.Nat.{ℕ, zero, suc, _*_, _≤_, _<_}
 use native.Mathlib.Omega.{arith}
-use native.Mathlib.Decide.{ℕ-discrete}
 use borrow.Author.Tests.{ltb-false, leb-false, le-ltb, lt-leb}
 use lib.ListN.{length, take, drop}
 use lib.Seq.{take-at, drop-at}
@@ -22,10 +21,11 @@ use Rattle.standing.specs.Rising.{Filed}
 use Rattle.actions.specs.Rows.{rows}
 use Rattle.actions.proofs.Listings.{length-rows}
 use Rattle.book.specs.declared.Book.{Book}
-use Rattle.book.specs.Standing.{standing, unsound, Stopped, stopsOf}
+use Rattle.standing.specs.Picked.{LowestNumber}
+use Rattle.book.specs.Standing.{standing, unsound, StopsLink, Stopped, stopsOf}
 use Rattle.book.specs.Entries.{opened}
 use Rattle.book.proofs.Filings.{sound-if}
-use Rattle.book.proofs.Stoppers.{stopper-some}
+use Rattle.book.proofs.Stoppers.{stopper-exactly}
 use Rattle.book.proofs.Entries.{stops-exactly}
 use Rattle.questions.specs.declared.Link.{Link}
 use Rattle.questions.specs.declared.Listing.{Listing}
@@ -48,10 +48,12 @@ module _ (b : Book) (i j c : ℕ) where
         passes (w .0) (passes (neither-of _ _ (lt-leb (b .n) i (w .1)) (lt-leb (size (b .n)) j (w .2))) (passes (le-ltb 2 c (omega arith)) none))),
   )
 
-  -- "link stopped or not": it says 1 where a standing notice names the link, and 0 otherwise
+  -- "The link test should answer with the lowest number among the notices that stop the link, or clear.": 0 where no standing notice names the
+  -- link, and otherwise the lowest number of one that does, which is not 0
   pub link-says-exactly : length (b .notices) ≡ 48 → (r : Link) → Passed (linkChecks b i j c) → Tests b i j c r
-      → ((linkSays r ≡ Reply.accepted (0 ∷ [])) × (Stopped (b .n) (standing b) i j c → ⊥)) ⊎ ((linkSays r ≡ Reply.accepted (1 ∷ [])) × Stopped (b .n) (standing b) i j c)
-  link-says-exactly places r passed t = go (ℕ-discrete (stopsOf b i j c) 0)
+      → ((linkSays r ≡ Reply.accepted (0 ∷ [])) × (Stopped (b .n) (standing b) i j c → ⊥))
+      ⊎ ((k : ℕ) × (linkSays r ≡ Reply.accepted (k ∷ [])) × (1 ≤ k) × LowestNumber (StopsLink (b .n) (standing b) i j c) k)
+  link-says-exactly places r passed t = go (stopsOf b i j c) refl
     where
       sound : unsound b ≡ false
       sound = link-lets-pass .0 passed .0
@@ -59,10 +61,13 @@ module _ (b : Book) (i j c : ℕ) where
       filed : Filed (unfit (b .n)) 0 (standing b)
       filed = sound-if b places sound .filed
 
-      go : Dec (stopsOf b i j c ≡ 0)
-          → ((linkSays r ≡ Reply.accepted (0 ∷ [])) × (Stopped (b .n) (standing b) i j c → ⊥)) ⊎ ((linkSays r ≡ Reply.accepted (1 ∷ [])) × Stopped (b .n) (standing b) i j c)
-      go (yes e) = let none = stops-exactly b places i j c sound .0 e in inl (t .clear passed none, none)
-      go (no e) = let some = stopper-some (b .n) i j c (standing b) filed .0 e in inr (t .stopped passed some, some)
+      go : (k : ℕ) → stopsOf b i j c ≡ k
+          → ((linkSays r ≡ Reply.accepted (0 ∷ [])) × (Stopped (b .n) (standing b) i j c → ⊥))
+          ⊎ ((k : ℕ) × (linkSays r ≡ Reply.accepted (k ∷ [])) × (1 ≤ k) × LowestNumber (StopsLink (b .n) (standing b) i j c) k)
+      go zero e = let none = stops-exactly b places i j c sound .0 e in inl (ap linkSays (t .clear passed none), none)
+      go (suc k) e =
+          let low = stopper-exactly (b .n) i j c (suc k) (standing b) filed .1 (e, omega arith) in
+          inr (suc k, ap linkSays (t .stopped passed (suc k) low), omega arith, low)
 
 module _ (b : Book) (memory : List ℕ) where
   -- "listing: 16, 13."
@@ -79,7 +84,7 @@ module _ (b : Book) (memory : List ℕ) where
 -- every refusal comes with a number of the table
 pub link-numbered : (a : Link) → Numbered (linkSays a)
 link-numbered Link.Clear = tt
-link-numbered Link.Stopped = tt
+link-numbered (Link.Stopped k) = tt
 link-numbered (Link.Refused why) = above-zero why
 
 pub listing-numbered : (a : Listing) → Numbered (listingSays a)

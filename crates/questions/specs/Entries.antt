@@ -1,4 +1,4 @@
--- Document 01, 'Numbers handed back', "Entries and order of checks": link stopped or not, and listing.
+-- Document 01, 'Numbers handed back', "Entries and order of checks": link stopped or not, with document 02, §2, and listing.
 use mathlib.Core.Path.{_≡_}
 use mathlib.Core.Bool.{_||_}
 use mathlib.Core.List.{List, [], _∷_, _++_}
@@ -11,7 +11,8 @@ use Rattle.fabric.specs.Labels.{size}
 use Rattle.actions.specs.Layout.{actionLength}
 use Rattle.actions.specs.Rows.{rows}
 use Rattle.book.specs.declared.Book.{Book}
-use Rattle.book.specs.Standing.{standing, Stopped}
+use Rattle.standing.specs.Picked.{LowestNumber}
+use Rattle.book.specs.Standing.{standing, StopsLink, Stopped}
 use Rattle.book.specs.Entries.{bookChecks}
 use Rattle.questions.specs.declared.Link.{Link}
 use Rattle.questions.specs.declared.Listing.{Listing}
@@ -19,22 +20,22 @@ use Rattle.questions.specs.declared.Listing.{Listing}
 -- The theorems named here stand in proofs/Entries.antt, unless another file is named. `link-numbered` and `listing-numbered`: no
 -- answer has number 0.
 
--- what an answer to the link test says: 0 clear, 1 stopped, `link-says-exactly`
+-- what an answer to the link test says: 0 where it is clear, otherwise a number, `link-says-exactly`
 abbrev pub linkSays : Link → Reply
 linkSays Link.Clear = Reply.accepted (0 ∷ [])
-linkSays Link.Stopped = Reply.accepted (1 ∷ [])
+linkSays (Link.Stopped k) = Reply.accepted (k ∷ [])
 linkSays (Link.Refused why) = refused (numberOf why)
 
 -- "link stopped or not: 16, 4, 12.": `link-order`, `link-lets-pass`
 abbrev pub linkChecks : Book → ℕ → ℕ → ℕ → List Check
 linkChecks b i j c = bookChecks b ++ (4 when (i notBelow b .n || j notBelow size (b .n))) ∷ (12 when 2 below c) ∷ []
 
--- stopped where some standing notice names the link, clear where none does: `link-says-exactly`; `tests-says` and `says-tests` (proofs/Testing.antt)
--- say it by the stopper
+-- "The link test should answer with the lowest number among the notices that stop the link, or clear.": `link-says-exactly`; `tests-answers` and
+-- `answers-tests` (proofs/Testing.antt) say it by the stopper
 pub record Tests (b : Book) (i j c : ℕ) (r : Link) : Type 0 where
   pub refuses : (k : ℕ) → Given k (linkChecks b i j c) → linkSays r ≡ refused k
-  pub stopped : Passed (linkChecks b i j c) → Stopped (b .n) (standing b) i j c → linkSays r ≡ Reply.accepted (1 ∷ [])
-  pub clear : Passed (linkChecks b i j c) → (Stopped (b .n) (standing b) i j c → ⊥) → linkSays r ≡ Reply.accepted (0 ∷ [])
+  pub stopped : Passed (linkChecks b i j c) → (k : ℕ) → LowestNumber (StopsLink (b .n) (standing b) i j c) k → r ≡ Link.Stopped k
+  pub clear : Passed (linkChecks b i j c) → (Stopped (b .n) (standing b) i j c → ⊥) → r ≡ Link.Clear
 
 -- what an answer to the listing says: `listed-exactly`
 abbrev pub listingSays : Listing → Reply

@@ -1,6 +1,6 @@
 -- The router's own bookkeeping: how far it has come through the notices. Nobody has to believe it; `Routes` is what it leads to.
 use mathlib.Core.Path.{_≡_}
-use mathlib.Core.Bool.{Bool, _||_}
+use mathlib.Core.Bool.{Bool, _&&_, _||_}
 use mathlib.Core.List.{List}
 use Prim.Native.Nat.{ℕ, _<_}
 use Rattle.frontier.specs.declared.Stops.{Stops}
@@ -21,3 +21,9 @@ pub record Told (n : ℕ) (straights forks : List ℕ) (all rest : List Notice) 
   pub filed : (k : ℕ) × Filed (unfit n) k rest
   pub all-named : (i c : ℕ) → i < n → c < 3
       → (has (setAt i w) c || named n rest i (outOf straights forks i c) c) ≡ named n all i (outOf straights forks i c) c
+
+-- whether a notice names one of a stage's ways onward
+abbrev pub stopsOneOf : ℕ → List ℕ → List ℕ → ℕ → ℕ → Notice → Bool
+stopsOneOf n straights forks i ways x =
+    let onWay : ℕ → Bool = λ c. names n x i (outOf straights forks i c) c && has ways c in
+    onWay 0 || (onWay 1 || onWay 2)

@@ -1,11 +1,19 @@
-// Document 01, 'route': the first clear path over the links that a book stops, or the stage that no clear walk can cross.
+// Document 01, 'route', and document 02, §2: the first clear path over the links that a book stops, or the stage that no clear walk can cross and
+// which notice stops the ways onward there.
 use book::Book;
+use crossing::Crossed;
 use crossing::cross;
+use named_links::named_at;
 use named_links::with_notice;
 use routes::Found;
 use table::Refusal;
-ghost use Rattle.book.specs.Standing.{Sound};
+ghost use mathlib.Core.Path.{_≡_};
+ghost use Prim.Native.Nat.{_<_};
+ghost use Rattle.standing.specs.Picked.{lowest};
+ghost use Rattle.book.specs.Standing.{standing, Sound};
 ghost use Rattle.routes.specs.Routed.{Routes};
+ghost use Rattle.named_links.specs.Named.{Ways};
+ghost use Rattle.router.specs.Told.{stopsOneOf};
 
 // "route: 16, 10, 11."
 pub fn route(book: Book, source: u16, destination: u16) -> Found
@@ -17,7 +25,8 @@ pub fn route(book: Book, source: u16, destination: u16) -> Found
     routed(book, source, destination)
 }
 
-// A route over a book that 16 does not refuse: 10, and then the first clear path over the links that the standing notices stop.
+// A route over a book that 16 does not refuse: 10, and then the first clear path over the links that the standing notices stop, or 11 with the stage and
+// the lowest number of a notice that stops a way onward there.
 pub fn routed(book: Book, source: u16, destination: u16) -> Found
     requires { ⌜ Sound book ⌝ }
     ensures { λ r. ⌜ Routes book source destination r ⌝ }
@@ -39,5 +48,32 @@ pub fn routed(book: Book, source: u16, destination: u16) -> Found
         stops = with_notice(n, &straights, &forks, x, stops);
         k += 1;
     }
-    cross(n, source, destination, stops)
+    let crossed = cross(n, source, destination, stops);
+    match crossed {
+        Crossed::Tag(tag) => Found::Tag(tag),
+        Crossed::Stuck { stage, ways } => {
+            let number = lowest_stopping(book, &straights, &forks, stage, ways);
+            Found::None { stage, number }
+        }
+    }
+}
+
+// The lowest number of a standing notice that stops one of a stage's ways onward: the notices stand by rising number, so the first that does has it.
+fn lowest_stopping(book: Book, straights: &[u16; 13], forks: &[u16; 13], stage: u8, ways: u8) -> u16
+    requires { ⌜ (Sound book) × (stage < book .n) × Ways (book .n) (now straights) (now forks) ⌝ }
+    ensures { λ r. ⌜ r ≡ lowest (stopsOneOf (book .n) (now (straights .entry)) (now (forks .entry)) stage ways) (standing book) ⌝ }
+{
+    let n = book.n;
+    let count = book.count;
+    let straight = straights[stage as usize];
+    let fork = forks[stage as usize];
+    let mut place = 0;
+    while place < count {
+        let x = book.notices[place];
+        if frontier::in_common(named_at(n, stage, straight, fork, x), ways) {
+            return x.number;
+        }
+        place += 1;
+    }
+    0
 }

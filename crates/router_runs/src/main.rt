@@ -15,6 +15,9 @@ fn main() {
     bad_input();
     damaged();
     tags_walked();
+    both_arms();
+    not_reached();
+    last_stage();
 }
 
 // A notice for links of one switch.
@@ -99,6 +102,33 @@ fn tags_walked() {
     walk(book, 1, 40);
 }
 
+// Document 02, §2: both arms of a fork count, other stages and other switches do not, and a walk names the notice that it meets.
+fn both_arms() {
+    let plus = with(empty(3), links(9, 0, 1, 2));
+    let both = with(plus, links(5, 0, 1, 4));
+    route(0, both, 1, 0);
+    let later = with(both, links(1, 1, 2, 7));
+    let beside = with(later, links(2, 0, 0, 7));
+    route(0, beside, 1, 0);
+    walk(beside, 1, 0);
+    walk(beside, 1, 8);
+    route(0, with(beside, links(4, 0, 1, 6)), 1, 0);
+}
+
+// Nothing out of a switch that no clear walk reaches: 3 stops the straight link of switch 0, which minus from 1 would lead to.
+fn not_reached() {
+    let closed = with(empty(3), links(20, 0, 1, 4));
+    let straight = with(closed, links(3, 1, 0, 1));
+    let one = with(straight, links(40, 1, 2, 2));
+    route(0, with(one, links(30, 1, 2, 4)), 1, 0);
+}
+
+// At stage n-1 plus and minus are two ways.
+fn last_stage() {
+    let plus = with(empty(1), links(65535, 0, 0, 2));
+    route(0, with(plus, links(65534, 0, 0, 4)), 0, 1);
+}
+
 fn route(example: u64, book: Book, source: u16, destination: u16) {
     word(b"ROUTE");
     number(example);
@@ -109,13 +139,17 @@ fn route(example: u64, book: Book, source: u16, destination: u16) {
             word(b" TAG");
             number(tag as u64);
         }
-        Found::None(stage) => {
-            word(b" NONE");
-            number(stage as u64);
-        }
+        Found::None { stage, number } => stopped(b" NONE", stage, number),
         Found::Refused(r) => refused(r),
     }
     word(b"\n");
+}
+
+fn stopped(what: &[u8], stage: u8, by: u16) {
+    word(what);
+    number(stage as u64);
+    word(b" BY");
+    number(by as u64);
 }
 
 fn walk(book: Book, source: u16, tag: u32) {
@@ -124,10 +158,7 @@ fn walk(book: Book, source: u16, tag: u32) {
     number(tag as u64);
     match walker::walk(book, source, tag) {
         Ended::Clear => word(b" CLEAR"),
-        Ended::Stopped(stage) => {
-            word(b" STOPPED");
-            number(stage as u64);
-        }
+        Ended::Stopped { stage, number } => stopped(b" STOPPED", stage, number),
         Ended::Astray => word(b" ASTRAY"),
         Ended::Refused(r) => refused(r),
     }

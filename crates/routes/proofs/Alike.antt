@@ -1,59 +1,119 @@
--- A route depends on a book only through which links are stopped.
+-- What a route depends on: its tag or stage on which links are stopped, the number that it names on the notices.
 use mathlib.Core.Path.{_≡_, sym, ap₂, subst, _∙_}
 use mathlib.Core.Bool.{Bool, false, _||_}
-use mathlib.Core.List.{List, [], _∷_}
-use mathlib.Core.Logic.{⊎-elim}
-use Prim.Native.Nat.{ℕ, suc}
-use lib.ListN.{getD}
+use mathlib.Core.List.{List, [], _∷_, List·Memᴰ}
+use mathlib.Core.Logic.{⊎-elim, _↔_}
+use Prim.Native.Nat.{ℕ, suc, _+_}
+use native.Mathlib.Omega.{arith}
+use lib.ListN.{length}
 use Rattle.table.specs.Checks.{Given, Passed, _when_, _notBelow_}
 use Rattle.table.proofs.Checks.{given-or-passed}
 use Rattle.fabric.specs.Labels.{size}
-use Rattle.fabric.specs.Walks.{switchAt}
-use Rattle.paths.specs.Clear.{Rule, Alike, ClearPath, Onward}
+use Rattle.paths.specs.Clear.{Rule, Alike, ClearPath, Onward, StageNamed}
+use Rattle.paths.proofs.Ways.{way-as}
+use Rattle.paths.proofs.Alike.{alike-clear, alike-by-any-number}
+use Rattle.paths.proofs.Named.{stage-once}
+use Rattle.notices.specs.declared.Notice.{Notice}
+use Rattle.notices.specs.Notices.{unfit}
+use Rattle.standing.specs.Rising.{Filed}
+use Rattle.standing.proofs.Members.{same-notices}
 use Rattle.book.specs.declared.Book.{Book}
-use Rattle.book.specs.Standing.{unsound, stopsOf}
+use Rattle.book.specs.Standing.{standing, unsound, stopper, stopsOf}
+use Rattle.book.proofs.Filings.{sound-if}
 use Rattle.routes.specs.declared.Found.{Found}
-use Rattle.routes.specs.Routed.{Routed, routeChecks, Routes}
-use Rattle.routes.proofs.Once.{found-tells, routed-once}
+use Rattle.routes.specs.Routed.{Routed, routeChecks, Routes, SameTagOrStage}
+use Rattle.routes.proofs.Once.{found-tells, routed-once, same-itself}
 
-module _ (n : ℕ) (s d : ℕ) where
-  clear-alike : (f g : Rule) → Alike f g → (cs : List ℕ) → ClearPath n f s d cs → ClearPath n g s d cs
-  clear-alike f g same cs p = record { path = p .path; clear = λ k h. same k (switchAt n s cs k) (getD cs k 0) .0 (p .clear k h) }
+module _ (n s d : ℕ) (f g : Rule) (same : Alike f g) where
+  clear-alike : (cs : List ℕ) → ClearPath n f s d cs → ClearPath n g s d cs
+  clear-alike cs p = record { path = p .path; clear = alike-clear f g same n s cs .0 (p .clear) }
 
-  onward-alike : (f g : Rule) → Alike f g → (k : ℕ) (cs : List ℕ) → Onward n f s d k cs → Onward n g s d k cs
-  onward-alike f g same k cs w =
-      record { links = w .links; codes = w .codes; clear = λ i h. same i (switchAt n s cs i) (getD cs i 0) .0 (w .clear i h); agrees = w .agrees }
+  clear-back : (cs : List ℕ) → ClearPath n g s d cs → ClearPath n f s d cs
+  clear-back cs p = record { path = p .path; clear = alike-clear f g same n s cs .1 (p .clear) }
 
-  back : (f g : Rule) → Alike f g → Alike g f
-  back f g same i j c = (same i j c .1, same i j c .0)
+  onward-alike : (k : ℕ) (cs : List ℕ) → Onward n f s d k cs → Onward n g s d k cs
+  onward-alike k cs w = record { links = w .links; codes = w .codes; clear = alike-clear f g same n s cs .0 (w .clear); agrees = w .agrees }
 
-  pub routed-alike : (f g : Rule) → Alike f g → (a : Found) → Routed n f s d a → Routed n g s d a
-  routed-alike f g same (Found.Tag t) w = (
-    w .0,
-    record {
-      clearPath = clear-alike f g same (w .0) (w .1 .clearPath);
-      first = λ ds q e. w .1 .first ds (clear-alike g f (back f g same) ds q) e;
-    },
-    w .2,
-  )
-  routed-alike f g same (Found.None i) w = (
-    λ cs q. w .0 cs (clear-alike g f (back f g same) cs q),
-    record {
-      none = λ cs q. w .1 .none cs (onward-alike g f (back f g same) (suc i) cs q);
-      least = λ k gone. w .1 .least k (λ cs q. gone cs (onward-alike f g same (suc k) cs q));
-    },
-  )
-  routed-alike f g same (Found.Refused r) w = absurd w
+  onward-back : (k : ℕ) (cs : List ℕ) → Onward n g s d k cs → Onward n f s d k cs
+  onward-back k cs w = record { links = w .links; codes = w .codes; clear = alike-clear f g same n s cs .1 (w .clear); agrees = w .agrees }
 
+  tag-alike : (t : ℕ) → Routed n f s d (Found.Tag t) → Routed n g s d (Found.Tag t)
+  tag-alike t w = (w .0, record { clearPath = clear-alike (w .0) (w .1 .clearPath); first = λ ds q e. w .1 .first ds (clear-back ds q) e }, w .2)
+
+  stage-alike : (i : ℕ) → StageNamed n f s d i → StageNamed n g s d i
+  stage-alike i w =
+      record {
+        none = λ cs q. w .none cs (onward-back (suc i) cs q);
+        least = λ k gone. w .least k (λ cs q. gone cs (onward-alike (suc k) cs q));
+      }
+
+  -- the same stopped links: the same tag, or the same stage
+  pub routed-alike : (a b : Found) → Routed n f s d a → Routed n g s d b → SameTagOrStage a b
+  routed-alike (Found.Tag t) (Found.Tag u) p q =
+      same-itself (Found.Tag t) (Found.Tag u) (routed-once n g s d (Found.Tag t) (Found.Tag u) (tag-alike t p) q)
+  routed-alike (Found.Tag t) (Found.None j m) p q = q .0 (p .0) (clear-alike (p .0) (p .1 .clearPath))
+  routed-alike (Found.Tag t) (Found.Refused r) p q = q
+  routed-alike (Found.None i k) (Found.Tag u) p q = p .0 (q .0) (clear-back (q .0) (q .1 .clearPath))
+  routed-alike (Found.None i k) (Found.None j m) p q = stage-once n g s d i j (stage-alike i (p .1)) (q .1)
+  routed-alike (Found.None i k) (Found.Refused r) p q = q
+  routed-alike (Found.Refused r) b p q = absurd p
+
+-- and the number may differ: it is that of the rule
+module _ (n s d : ℕ) (f : Rule) where
+  abbrev doubled : Rule
+  doubled i j c = f i j c + f i j c
+
+  pub number-follows-rule : (i k : ℕ) → Routed n f s d (Found.None i k) → Routed n doubled s d (Found.None i (k + k))
+  number-follows-rule i k w =
+      let named = w .2 in (
+        (λ cs q. w .0 cs (clear-back n s d f doubled (alike-by-any-number f) cs q)),
+        stage-alike n s d f doubled (alike-by-any-number f) i (w .1),
+        record {
+          switch = named .switch;
+          code = named .code;
+          way = way-as (λ cs. alike-clear f doubled (alike-by-any-number f) n s cs .0) (named .way);
+          stopped = let e = named .stopped in omega arith;
+          some = let l = named .some in omega arith;
+          least = λ j c v l. let m = named .least j c (way-as (λ cs. alike-clear f doubled (alike-by-any-number f) n s cs .1) v) (omega arith) in omega arith;
+        },
+      )
+
+-- two sound books of one size have one list of checks
+same-checks : (b c : Book) (s d : ℕ) → unsound b ≡ false → unsound c ≡ false → b .n ≡ c .n → routeChecks b s d ≡ routeChecks c s d
+same-checks b c s d sb sc size-same = ap₂ (λ (u : Bool) (m : ℕ). (16 when u) ∷ (10 when (s notBelow size m || d notBelow size m)) ∷ []) (sb ∙ sym sc) size-same
+
+-- over books: the same stopped links give the same tag, or the same stage
 pub same-stops-same-route : (b c : Book) (s d : ℕ) (x y : Found) → unsound b ≡ false → unsound c ≡ false → b .n ≡ c .n → Alike (stopsOf b) (stopsOf c)
-    → Routes b s d x → Routes c s d y → x ≡ y
+    → Routes b s d x → Routes c s d y → SameTagOrStage x y
 same-stops-same-route b c s d x y sb sc size-same same p q =
     ⊎-elim
-    (λ g. found-tells x y (g .0) (p .refuses (g .0) (g .1)) (q .refuses (g .0) (subst (Given (g .0)) checks (g .1))))
+    (λ g. same-itself x y (found-tells x y (g .0) (p .refuses (g .0) (g .1)) (q .refuses (g .0) (subst (Given (g .0)) checks (g .1)))))
     (λ w.
     let r : Routed (c .n) (stopsOf b) s d x = subst (λ (m : ℕ). Routed m (stopsOf b) s d x) size-same (p .routes w) in
-    routed-once (c .n) (stopsOf c) s d x y (routed-alike (c .n) s d (stopsOf b) (stopsOf c) same x r) (q .routes (subst Passed checks w)))
+    routed-alike (c .n) s d (stopsOf b) (stopsOf c) same x y r (q .routes (subst Passed checks w)))
     (given-or-passed (routeChecks b s d))
   where
     checks : routeChecks b s d ≡ routeChecks c s d
-    checks = ap₂ (λ (u : Bool) (m : ℕ). (16 when u) ∷ (10 when (s notBelow size m || d notBelow size m)) ∷ []) (sb ∙ sym sc) size-same
+    checks = same-checks b c s d sb sc size-same
+
+-- the same notices give the same answer, all of it
+pub same-notices-same-route : (b c : Book) (s d : ℕ) (x y : Found) → length (b .notices) ≡ 48 → length (c .notices) ≡ 48
+    → unsound b ≡ false → unsound c ≡ false → b .n ≡ c .n → ((z : Notice) → List·Memᴰ z (standing b) ↔ List·Memᴰ z (standing c))
+    → Routes b s d x → Routes c s d y → x ≡ y
+same-notices-same-route b c s d x y pb pc sb sc size-same same p q =
+    ⊎-elim
+    (λ g. found-tells x y (g .0) (p .refuses (g .0) (g .1)) (q .refuses (g .0) (subst (Given (g .0)) checks (g .1))))
+    (λ w. routed-once (c .n) (stopsOf c) s d x y (over (p .routes w)) (q .routes (subst Passed checks w)))
+    (given-or-passed (routeChecks b s d))
+  where
+    checks : routeChecks b s d ≡ routeChecks c s d
+    checks = same-checks b c s d sb sc size-same
+
+    filed : Filed (unfit (c .n)) 0 (standing b)
+    filed = subst (λ (m : ℕ). Filed (unfit m) 0 (standing b)) size-same (sound-if b pb sb .filed)
+
+    stand : standing b ≡ standing c
+    stand = same-notices (unfit (c .n)) (standing c) (standing b) 0 0 (sound-if c pc sc .filed) filed (λ z. same z .0) (λ z. same z .1)
+
+    over : Routed (b .n) (stopsOf b) s d x → Routed (c .n) (stopsOf c) s d x
+    over r = subst (λ (l : List Notice). Routed (c .n) (stopper (c .n) l) s d x) stand (subst (λ (m : ℕ). Routed m (stopper m (standing b)) s d x) size-same r)

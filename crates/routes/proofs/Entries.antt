@@ -15,6 +15,7 @@ use Rattle.fabric.specs.Labels.{size}
 use Rattle.book.specs.declared.Book.{Book}
 use Rattle.book.specs.Standing.{unsound, stopsOf}
 use Rattle.paths.specs.Clear.{ClearPath, StageNamed}
+use Rattle.paths.specs.Ways.{NumberNamed}
 use Rattle.routes.specs.declared.Found.{Found}
 use Rattle.routes.specs.Routed.{routeSays, Routed, routeChecks, Routes}
 use Rattle.routes.proofs.Once.{found-tells, routed-once, eleven-routed}
@@ -61,20 +62,21 @@ module _ (b : Book) (s d : ℕ) (passed : Passed (routeChecks b s d)) (a : Found
     where
       go : (x : Found) → Routed (b .n) (stopsOf b) s d x → (t : ℕ) × (x ≡ Found.Tag t)
       go (Found.Tag t) w = (t, refl)
-      go (Found.None i) w = absurd (w .0 cs path)
+      go (Found.None i k) w = absurd (w .0 cs path)
       go (Found.Refused r) w = absurd w
 
-  pub none-when-none : ((cs : List ℕ) → ClearPath (b .n) (stopsOf b) s d cs → ⊥) → (i : ℕ) × (a ≡ Found.None i)
+  pub none-when-none : ((cs : List ℕ) → ClearPath (b .n) (stopsOf b) s d cs → ⊥) → (i : ℕ) × (k : ℕ) × (a ≡ Found.None i k)
   none-when-none empty = go a (answers .routes passed)
     where
-      go : (x : Found) → Routed (b .n) (stopsOf b) s d x → (i : ℕ) × (x ≡ Found.None i)
+      go : (x : Found) → Routed (b .n) (stopsOf b) s d x → (i : ℕ) × (k : ℕ) × (x ≡ Found.None i k)
       go (Found.Tag t) w = absurd (empty (w .0) (w .1 .clearPath))
-      go (Found.None i) w = (i, refl)
+      go (Found.None i k) w = (i, k, refl)
       go (Found.Refused r) w = absurd w
 
-  -- 11: "no clear path, with the stage"
-  pub eleven-exactly : (i : ℕ) → (routeSays a ≡ Reply.refusedWith 11 (i ∷ [])) ↔ (((cs : List ℕ) → ClearPath (b .n) (stopsOf b) s d cs → ⊥) × StageNamed (b .n) (stopsOf b) s d i)
-  eleven-exactly i = eleven-routed (b .n) (stopsOf b) s d a (answers .routes passed) i
+  -- 11: "no clear path, with the stage", and the number
+  pub eleven-exactly : (i k : ℕ) → (routeSays a ≡ Reply.refusedWith 11 (i ∷ k ∷ []))
+      ↔ (((cs : List ℕ) → ClearPath (b .n) (stopsOf b) s d cs → ⊥) × StageNamed (b .n) (stopsOf b) s d i × NumberNamed (b .n) (stopsOf b) s d i k)
+  eleven-exactly i k = eleven-routed (b .n) (stopsOf b) s d a (answers .routes passed) i k
 
   -- "The route answer is that path's normal tag": accepted with a tag exactly when it is the normal tag of the first clear path over the
   -- links that the book stops, which is `Routed` at `Tag`
@@ -86,5 +88,5 @@ module _ (b : Book) (s d : ℕ) (passed : Passed (routeChecks b s d)) (a : Found
     where
       told : (x : Found) → Routed (b .n) (stopsOf b) s d x → routeSays x ≡ Reply.accepted (t ∷ []) → Routed (b .n) (stopsOf b) s d (Found.Tag t)
       told (Found.Tag u) w e = let z : t ≡ u = cc in (w .0, w .1, z ∙ w .2)
-      told (Found.None i) w e = absurd (zero-one cc)
+      told (Found.None i k) w e = absurd (zero-one cc)
       told (Found.Refused r) w e = absurd w

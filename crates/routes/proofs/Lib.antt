@@ -1,3 +1,4 @@
 pub mod Once
 pub mod Alike
+pub mod Numbers
 pub mod Entries

@@ -1,9 +1,9 @@
-// Document 01, 'Numbers handed back': what a route answers. There is no code here.
+// Document 01, 'Numbers handed back', and document 02, §2: what a route answers. There is no code here.
 use table::Refusal;
 
-// The tag of the first clear path, or the stage that no clear walk can cross.
+// The tag of the first clear path; or the stage that no clear walk can cross, with the lowest number of a notice that stops a way onward there.
 pub enum Found {
     Tag(u32),
-    None(u8),
+    None { stage: u8, number: u16 },
     Refused(Refusal),
 }

@@ -9,11 +9,24 @@ use native.Mathlib.Omega.{arith}
 use borrow.Author.Tests.{ne-eqb}
 use lib.Dec.{eqb}
 use Rattle.notices.specs.declared.Notice.{Notice}
-use Rattle.standing.specs.Picked.{Some, some, lowest}
+use Rattle.standing.specs.Picked.{Picked, Some, LowestNumber, some, lowest}
 use Rattle.standing.specs.Rising.{Filed}
 use Rattle.standing.proofs.Members.{all-above}
 
 module _ (test : Notice → Bool) where
+  -- the first notice of a list is picked, or the number is one of the others'
+  pub lowest-here : (x : Notice) (xs : List Notice) → test x ≡ true → lowest test (x ∷ xs) ≡ x .number
+  unfolding lowest
+  lowest-here x xs e = rw e
+
+  pub lowest-later : (x : Notice) (xs : List Notice) → test x ≡ false → lowest test (x ∷ xs) ≡ lowest test xs
+  unfolding lowest
+  lowest-later x xs e = rw e
+
+  pub lowest-nothing : lowest test [] ≡ 0
+  unfolding lowest
+  lowest-nothing = refl
+
   -- a number other than 0 is that of a notice that is picked
   pub lowest-picks : (l : List Notice) → (lowest test l ≡ 0 → ⊥) → (x : Notice) × List·Memᴰ x l × (test x ≡ true) × (x .number ≡ lowest test l)
   unfolding lowest
@@ -57,6 +70,23 @@ module _ (test : Notice → Bool) where
     pub lowest-some : (l : List Notice) → Filed bad 0 l → (lowest test l ≡ 0 → ⊥) ↔ Some test l
     lowest-some l f = ((λ e. let w = lowest-picks l e in (w .0, w .1, w .2)), (λ w e. lowest-none l f .0 e w))
 
+    -- among notices by rising number it is the lowest of those that are picked, and where there is a lowest it is that
+    pub lowest-exactly : (k : ℕ) (l : List Notice) → Filed bad 0 l → LowestNumber (Picked test l) k ↔ ((lowest test l ≡ k) × (1 ≤ k))
+    lowest-exactly k l f = (
+      (λ w.
+          let at = w .numbered in
+          let r = lowest-least 0 l (w .notice) f (w .among .0) (w .among .1) in
+          let y = lowest-picks l (λ e. omega arith) in
+          let first = y .3 in
+          let h = w .least (y .0) (y .1, y .2) in
+          (omega arith, omega arith)),
+      λ v.
+          let e = v .0 in
+          let some = v .1 in
+          let y = lowest-picks l (λ z. omega arith) in
+          record { notice = y .0; among = (y .1, y .2); numbered = y .3 ∙ e; least = λ x p. let r = lowest-least 0 l x f (p .0) (p .1) in omega arith },
+    )
+
     -- the two tests agree
     pub lowest-tells : (k : ℕ) (l : List Notice) → Filed bad k l → not (eqb (lowest test l) 0) ≡ some test l
     unfolding lowest some Filed
@@ -66,3 +96,16 @@ module _ (test : Notice → Bool) where
         go : (b : Bool) → not (eqb (lowest test xs) 0) ≡ some test xs → not (eqb (cond b (x .number) (lowest test xs)) 0) ≡ (b || some test xs)
         go true ih = let h = f .0 in ap not (ne-eqb (x .number) 0 (λ e. omega arith))
         go false ih = ih
+
+-- there is one lowest number, of whatever notices
+pub lowest-number-once : (P : Notice → Type 0) (k m : ℕ) → LowestNumber P k → LowestNumber P m → k ≡ m
+lowest-number-once P k m p q =
+    let a = p .numbered in
+    let b = q .numbered in
+    let l = p .least (q .notice) (q .among) in
+    let r = q .least (p .notice) (p .among) in
+    omega arith
+
+-- and it is that of the same notices, however they are told
+pub lowest-number-as : {P Q : Notice → Type 0} {k : ℕ} → ((x : Notice) → P x → Q x) → ((x : Notice) → Q x → P x) → LowestNumber P k → LowestNumber Q k
+lowest-number-as to back w = record { notice = w .notice; among = to (w .notice) (w .among); numbered = w .numbered; least = λ x q. w .least x (back x q) }

@@ -31,8 +31,8 @@ module _ (n : ℕ) (stops : Rule) (s tag : ℕ) where
     pub clear-more : ClearUpTo i → stops i j code ≡ 0 → ClearUpTo (i + 1)
     clear-more before free = below-more (λ k. stops k (switchAt n s (stepsOf n s tag) k) (getD (stepsOf n s tag) k 0) ≡ 0) i before (sym same-link ∙ free)
 
-    pub stopped-here : ClearUpTo i → (stops i j code ≡ 0 → ⊥) → FirstStopped n stops s (stepsOf n s tag) i
-    stopped-here before held = record { stage = inside; stopped = λ e. held (same-link ∙ e); before = λ k h. before k (omega arith) }
+    pub stopped-here : (number : ℕ) → ClearUpTo i → number ≡ stops i j code → (number ≡ 0 → ⊥) → FirstStopped n stops s (stepsOf n s tag) i number
+    stopped-here number before named held = record { stage = inside; number = sym (named ∙ same-link); stopped = held; before = λ k h. before k (omega arith) }
 
     pub next-switch : lands n i code j ≡ switchAt n s (stepsOf n s tag) (i + 1)
     next-switch = step-on n s tag i j code inside at uses .1

@@ -1,4 +1,4 @@
-// Document 01, 'walk': walking a tag over the links that a book stops.
+// Document 01, 'walk', and document 02, §2: walking a tag over the links that a book stops.
 use book::Book;
 use table::Refusal;
 use walks::Ended;
@@ -49,8 +49,9 @@ fn along(book: Book, source: u16, tag: u32) -> Ended
             break end_at(n, j, tag);
         }
         let code = scheme::step_of(n, tag, i, j);
-        if asked::stopper(book, i, j, code) != 0 {
-            break Ended::Stopped(i);
+        let number = asked::stopper(book, i, j, code);
+        if number != 0 {
+            break Ended::Stopped { stage: i, number };
         }
         j = fabric::landing(n, i, code, j);
         i += 1;

@@ -1,5 +1,5 @@
 -- Theorems over walk: what its answers say, and that its promise leaves no second answer.
-use mathlib.Core.Path.{_≡_, refl, ap, subst}
+use mathlib.Core.Path.{_≡_, refl, sym, ap, ap₂, subst, _∙_}
 use mathlib.Core.Bool.{false}
 use mathlib.Core.List.{List, [], _∷_}
 use mathlib.Core.Logic.{⊎-elim, _↔_}
@@ -39,62 +39,69 @@ walk-lets-pass b s tag = (
 -- every refusal comes with a number of the table
 pub ended-numbered : (a : Ended) → Numbered (walkSays a)
 ended-numbered Ended.Clear = tt
-ended-numbered (Ended.Stopped i) = omega arith
+ended-numbered (Ended.Stopped i m) = omega arith
 ended-numbered Ended.Astray = omega arith
 ended-numbered (Ended.Refused r) = above-zero r
 
 -- answers that say one number alone are one answer
 pub ended-tells : (a b : Ended) (k : ℕ) → walkSays a ≡ refused k → walkSays b ≡ refused k → a ≡ b
 ended-tells Ended.Clear b k e f = absurd (zero-one cc)
-ended-tells (Ended.Stopped i) b k e f = absurd (zero-one cc)
+ended-tells (Ended.Stopped i m) b k e f = absurd (zero-one cc)
 ended-tells Ended.Astray Ended.Clear k e f = absurd (zero-one cc)
-ended-tells Ended.Astray (Ended.Stopped j) k e f = absurd (zero-one cc)
+ended-tells Ended.Astray (Ended.Stopped j m) k e f = absurd (zero-one cc)
 ended-tells Ended.Astray Ended.Astray k e f = refl
 ended-tells Ended.Astray (Ended.Refused r) k e f = let z : 17 ≡ numberOf r = cc in (let l = below-seventeen r in absurd (omega arith))
 ended-tells (Ended.Refused q) Ended.Clear k e f = absurd (zero-one cc)
-ended-tells (Ended.Refused q) (Ended.Stopped j) k e f = absurd (zero-one cc)
+ended-tells (Ended.Refused q) (Ended.Stopped j m) k e f = absurd (zero-one cc)
 ended-tells (Ended.Refused q) Ended.Astray k e f = let z : 17 ≡ numberOf q = cc in (let l = below-seventeen q in absurd (omega arith))
 ended-tells (Ended.Refused q) (Ended.Refused r) k e f = let z : numberOf q ≡ numberOf r = cc in ap Ended.Refused (number-tells q r z)
 
 -- over one rule, a walk has one answer
 module _ (n : ℕ) (stops : Rule) where
-  stopped-once : (s : ℕ) (cs : List ℕ) (i j : ℕ) → FirstStopped n stops s cs i → FirstStopped n stops s cs j → i ≡ j
-  stopped-once s cs i j p q = go (decLt i j) (decLt j i)
+  stopped-once : (s : ℕ) (cs : List ℕ) (i j k m : ℕ) → FirstStopped n stops s cs i k → FirstStopped n stops s cs j m → (i ≡ j) × (k ≡ m)
+  stopped-once s cs i j k m p q =
+      let e : i ≡ j = go (decLt i j) (decLt j i) in
+      (e, sym (p .number) ∙ ap (λ (x : ℕ). stops x (switchAt n s cs x) (getD cs x 0)) e ∙ q .number)
     where
       go : Dec (i < j) → Dec (j < i) → i ≡ j
-      go (yes h) d = absurd (p .stopped (q .before i h))
-      go (no h) (yes g) = absurd (q .stopped (p .before j g))
+      go (yes h) d = absurd (p .stopped (sym (p .number) ∙ q .before i h))
+      go (no h) (yes g) = absurd (q .stopped (sym (q .number) ∙ p .before j g))
       go (no h) (no g) = omega arith
 
   -- "the first stage whose link is stopped": it is stopped there, and at no stage below
-  pub first-stopped-least : (s : ℕ) (cs : List ℕ) (i k : ℕ) → FirstStopped n stops s cs i → (stops k (switchAt n s cs k) (getD cs k 0) ≡ 0 → ⊥) → i ≤ k
-  first-stopped-least s cs i k p held = go (decLt k i)
+  pub first-stopped-least : (s : ℕ) (cs : List ℕ) (i k m : ℕ) → FirstStopped n stops s cs i k → (stops m (switchAt n s cs m) (getD cs m 0) ≡ 0 → ⊥) → i ≤ m
+  first-stopped-least s cs i k m p held = go (decLt m i)
     where
-      go : Dec (k < i) → i ≤ k
-      go (yes h) = absurd (held (p .before k h))
+      go : Dec (m < i) → i ≤ m
+      go (yes h) = absurd (held (p .before m h))
       go (no h) = omega arith
 
+  -- "A walk passes that number on": the number is not 0, and it is the rule's own for the link of that stage
+  pub passes-on : (s : ℕ) (cs : List ℕ) (i k : ℕ) → FirstStopped n stops s cs i k → (1 ≤ k) × (stops i (switchAt n s cs i) (getD cs i 0) ≡ k)
+  passes-on s cs i k p = let held = p .stopped in (omega arith, p .number)
+
   pub least-stopped-first : (s : ℕ) (cs : List ℕ) (i : ℕ) → i < n → (stops i (switchAt n s cs i) (getD cs i 0) ≡ 0 → ⊥)
-      → ((k : ℕ) → (stops k (switchAt n s cs k) (getD cs k 0) ≡ 0 → ⊥) → i ≤ k) → FirstStopped n stops s cs i
-  least-stopped-first s cs i inside held least = record { stage = inside; stopped = held; before = λ k h. clear k h (ℕ-discrete (stops k (switchAt n s cs k) (getD cs k 0)) 0) }
+      → ((k : ℕ) → (stops k (switchAt n s cs k) (getD cs k 0) ≡ 0 → ⊥) → i ≤ k) → FirstStopped n stops s cs i (stops i (switchAt n s cs i) (getD cs i 0))
+  least-stopped-first s cs i inside held least =
+      record { stage = inside; number = refl; stopped = held; before = λ k h. clear k h (ℕ-discrete (stops k (switchAt n s cs k) (getD cs k 0)) 0) }
     where
       clear : (k : ℕ) → k < i → Dec (stops k (switchAt n s cs k) (getD cs k 0) ≡ 0) → stops k (switchAt n s cs k) (getD cs k 0) ≡ 0
       clear k h (yes e) = e
       clear k h (no e) = let l = least k e in absurd (omega arith)
 
-  not-both : (s tag i : ℕ) → FirstStopped n stops s (stepsOf n s tag) i → Clear n stops s (stepsOf n s tag) → ⊥
-  not-both s tag i p clear = let l = steps-of-tag n s tag .stages in let h = p .stage in p .stopped (clear i (omega arith))
+  not-both : (s tag i k : ℕ) → FirstStopped n stops s (stepsOf n s tag) i k → Clear n stops s (stepsOf n s tag) → ⊥
+  not-both s tag i k p clear = let l = steps-of-tag n s tag .stages in let h = p .stage in p .stopped (sym (p .number) ∙ clear i (omega arith))
 
   pub walked-once : (s tag : ℕ) (a b : Ended) → Walked n stops s tag a → Walked n stops s tag b → a ≡ b
-  walked-once s tag (Ended.Stopped i) (Ended.Stopped j) p q = ap Ended.Stopped (stopped-once s (stepsOf n s tag) i j p q)
-  walked-once s tag (Ended.Stopped i) Ended.Clear p q = absurd (not-both s tag i p (q .0))
-  walked-once s tag (Ended.Stopped i) Ended.Astray p q = absurd (not-both s tag i p (q .0))
-  walked-once s tag (Ended.Stopped i) (Ended.Refused r) p q = absurd q
-  walked-once s tag Ended.Clear (Ended.Stopped j) p q = absurd (not-both s tag j q (p .0))
+  walked-once s tag (Ended.Stopped i k) (Ended.Stopped j m) p q = let e = stopped-once s (stepsOf n s tag) i j k m p q in ap₂ Ended.Stopped (e .0) (e .1)
+  walked-once s tag (Ended.Stopped i k) Ended.Clear p q = absurd (not-both s tag i k p (q .0))
+  walked-once s tag (Ended.Stopped i k) Ended.Astray p q = absurd (not-both s tag i k p (q .0))
+  walked-once s tag (Ended.Stopped i k) (Ended.Refused r) p q = absurd q
+  walked-once s tag Ended.Clear (Ended.Stopped j m) p q = absurd (not-both s tag j m q (p .0))
   walked-once s tag Ended.Clear Ended.Clear p q = refl
   walked-once s tag Ended.Clear Ended.Astray p q = absurd (q .1 (p .1))
   walked-once s tag Ended.Clear (Ended.Refused r) p q = absurd q
-  walked-once s tag Ended.Astray (Ended.Stopped j) p q = absurd (not-both s tag j q (p .0))
+  walked-once s tag Ended.Astray (Ended.Stopped j m) p q = absurd (not-both s tag j m q (p .0))
   walked-once s tag Ended.Astray Ended.Clear p q = absurd (p .1 (q .1))
   walked-once s tag Ended.Astray Ended.Astray p q = refl
   walked-once s tag Ended.Astray (Ended.Refused r) p q = absurd q
@@ -110,16 +117,21 @@ walk-once b s tag x y p q =
 
 -- what a walk's answer says, past 16, 10 and 12
 module _ (b : Book) (s tag : ℕ) (passed : Passed (walkChecks b s tag)) (a : Ended) (answers : Walks b s tag a) where
-  -- 11: "in a walk, the first stage whose link is stopped"
-  pub eleven-exactly : (i : ℕ) → (walkSays a ≡ Reply.refusedWith 11 (i ∷ [])) ↔ FirstStopped (b .n) (stopsOf b) s (stepsOf (b .n) s tag) i
-  eleven-exactly i = (
+  -- 11: "in a walk, the first stage whose link is stopped", and the number that stops it
+  pub eleven-exactly : (i k : ℕ) → (walkSays a ≡ Reply.refusedWith 11 (i ∷ k ∷ [])) ↔ FirstStopped (b .n) (stopsOf b) s (stepsOf (b .n) s tag) i k
+  eleven-exactly i k = (
     told a (answers .walks passed),
-    λ w. ap walkSays (walked-once (b .n) (stopsOf b) s tag a (Ended.Stopped i) (answers .walks passed) w),
+    λ w. ap walkSays (walked-once (b .n) (stopsOf b) s tag a (Ended.Stopped i k) (answers .walks passed) w),
   )
     where
-      told : (x : Ended) → Walked (b .n) (stopsOf b) s tag x → walkSays x ≡ Reply.refusedWith 11 (i ∷ []) → FirstStopped (b .n) (stopsOf b) s (stepsOf (b .n) s tag) i
+      told : (x : Ended) → Walked (b .n) (stopsOf b) s tag x → walkSays x ≡ Reply.refusedWith 11 (i ∷ k ∷ [])
+          → FirstStopped (b .n) (stopsOf b) s (stepsOf (b .n) s tag) i k
       told Ended.Clear w e = absurd (zero-one cc)
-      told (Ended.Stopped j) w e = let z : j ≡ i = cc in subst (FirstStopped (b .n) (stopsOf b) s (stepsOf (b .n) s tag)) z w
+      told (Ended.Stopped j m) w e =
+          let y : j ≡ i = cc in
+          let z : m ≡ k = cc in
+          subst (λ (x : ℕ). FirstStopped (b .n) (stopsOf b) s (stepsOf (b .n) s tag) x k) y
+          (subst (FirstStopped (b .n) (stopsOf b) s (stepsOf (b .n) s tag) j) z w)
       told Ended.Astray w e = absurd (zero-one cc)
       told (Ended.Refused r) w e = absurd w
 
@@ -133,7 +145,7 @@ module _ (b : Book) (s tag : ℕ) (passed : Passed (walkChecks b s tag)) (a : En
       told : (x : Ended) → Walked (b .n) (stopsOf b) s tag x → walkSays x ≡ Reply.accepted []
           → Clear (b .n) (stopsOf b) s (stepsOf (b .n) s tag) × (walked (b .n) 0 s (stepsOf (b .n) s tag) ≡ destination (b .n) tag)
       told Ended.Clear w e = w
-      told (Ended.Stopped j) w e = absurd (zero-one cc)
+      told (Ended.Stopped j m) w e = absurd (zero-one cc)
       told Ended.Astray w e = absurd (zero-one cc)
       told (Ended.Refused r) w e = absurd w
 
@@ -147,7 +159,7 @@ module _ (b : Book) (s tag : ℕ) (passed : Passed (walkChecks b s tag)) (a : En
       told : (x : Ended) → Walked (b .n) (stopsOf b) s tag x → walkSays x ≡ refused 17
           → Clear (b .n) (stopsOf b) s (stepsOf (b .n) s tag) × (walked (b .n) 0 s (stepsOf (b .n) s tag) ≡ destination (b .n) tag → ⊥)
       told Ended.Clear w e = absurd (zero-one cc)
-      told (Ended.Stopped j) w e = absurd (zero-one cc)
+      told (Ended.Stopped j m) w e = absurd (zero-one cc)
       told Ended.Astray w e = w
       told (Ended.Refused r) w e = absurd w
 

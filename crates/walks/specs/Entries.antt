@@ -1,4 +1,4 @@
--- Document 01, 'Numbers handed back', "Entries and order of checks": walk.
+-- Document 01, 'Numbers handed back', "Entries and order of checks", and document 02, §2: walk.
 use mathlib.Core.Path.{_≡_}
 use mathlib.Core.List.{List, [], _∷_, _++_}
 use Prim.Native.Nat.{ℕ, _<_}
@@ -15,11 +15,11 @@ use Rattle.book.specs.Standing.{stopsOf}
 use Rattle.book.specs.Entries.{bookChecks}
 use Rattle.walks.specs.declared.Ended.{Ended}
 
--- The number and values of each answer: 11 comes with a stage. `clear-exactly`, `eleven-exactly` and `seventeen-exactly` (proofs/Entries.antt)
+-- The number and values of each answer: 11 comes with a stage and a notice's number. `clear-exactly`, `eleven-exactly` and `seventeen-exactly` (proofs/Entries.antt)
 -- say when each is given, past the checks; `ended-numbered` that no number is 0.
 abbrev pub walkSays : Ended → Reply
 walkSays Ended.Clear = Reply.accepted []
-walkSays (Ended.Stopped i) = Reply.refusedWith 11 (i ∷ [])
+walkSays (Ended.Stopped i k) = Reply.refusedWith 11 (i ∷ k ∷ [])
 walkSays Ended.Astray = refused 17
 walkSays (Ended.Refused r) = refused (numberOf r)
 
@@ -27,15 +27,17 @@ walkSays (Ended.Refused r) = refused (numberOf r)
 abbrev pub walkChecks : Book → ℕ → ℕ → List Check
 walkChecks b s tag = bookChecks b ++ (10 when s notBelow size (b .n)) ∷ (12 when tag notBelow tags (b .n)) ∷ []
 
--- "the first stage whose link is stopped": `first-stopped-least` and `least-stopped-first` say that it is the least such stage
-pub record FirstStopped (n : ℕ) (stops : Rule) (s : ℕ) (cs : List ℕ) (i : ℕ) : Type 0 where
+-- "the first stage whose link is stopped": `first-stopped-least` and `least-stopped-first` say that it is the least such stage; "A walk passes that
+-- number on": it is the number of that very link, `passes-on`
+pub record FirstStopped (n : ℕ) (stops : Rule) (s : ℕ) (cs : List ℕ) (i k : ℕ) : Type 0 where
   pub stage : i < n
-  pub stopped : stops i (switchAt n s cs i) (getD cs i 0) ≡ 0 → ⊥
-  pub before : (k : ℕ) → k < i → stops k (switchAt n s cs k) (getD cs k 0) ≡ 0
+  pub number : stops i (switchAt n s cs i) (getD cs i 0) ≡ k
+  pub stopped : k ≡ 0 → ⊥
+  pub before : (m : ℕ) → m < i → stops m (switchAt n s cs m) (getD cs m 0) ≡ 0
 
 -- "11, 17; otherwise clear": the first stage whose link is stopped; "a walk ended away from its tag's destination"
 abbrev pub Walked : ℕ → Rule → ℕ → ℕ → Ended → Type 0
-Walked n stops s tag (Ended.Stopped i) = FirstStopped n stops s (stepsOf n s tag) i
+Walked n stops s tag (Ended.Stopped i k) = FirstStopped n stops s (stepsOf n s tag) i k
 Walked n stops s tag Ended.Astray = Clear n stops s (stepsOf n s tag) × (walked n 0 s (stepsOf n s tag) ≡ destination n tag → ⊥)
 Walked n stops s tag Ended.Clear = Clear n stops s (stepsOf n s tag) × (walked n 0 s (stepsOf n s tag) ≡ destination n tag)
 Walked n stops s tag (Ended.Refused r) = ⊥

@@ -13,14 +13,8 @@ tag-told-requires c κs = search needs
 enum-known-answer-2 : tie.Need-enum-known-answer-2
 enum-known-answer-2 c = search needs
 
-slice-aggregate-number-told : tie.Need-slice-aggregate-number-told
-slice-aggregate-number-told c = search needs
-
-cast-number-told : tie.Need-cast-number-told
-cast-number-told c = search needs
-
-number-told-requires : tie.Need-number-told-requires
-number-told-requires c κs = search needs
+none-told-requires : tie.Need-none-told-requires
+none-told-requires c κs = search needs
 
 enum-known-answer-3 : tie.Need-enum-known-answer-3
 enum-known-answer-3 c = search needs
@@ -41,9 +35,8 @@ same-length-2 c = search needs
 
 returns-2 : tie.Need-returns-2
 returns-2 c =
-    let w = c .before .before .number-told in
-    let short = w .ensures .1 in
-    (rw (c .before .before .before .before .before .before .answer2 .given .1) (w .ensures .0), omega arith)
+    let w = c .before .before .none-told in
+    (rw (c .before .before .before .before .before .answer2 .given .1) (w .ensures .0), w .ensures .1)
 
 same-length-3 : tie.Need-same-length-3
 same-length-3 c = search needs
@@ -61,9 +54,7 @@ found-told-spec =
     enum-known-answer
     tag-told-requires
     enum-known-answer-2
-    slice-aggregate-number-told
-    cast-number-told
-    number-told-requires
+    none-told-requires
     enum-known-answer-3
     refusal-told-requires
     same-length

@@ -18,6 +18,7 @@ use Rattle.frontier.specs.declared.Stops.{Stops}
 use Rattle.frontier.specs.Stops.{StopsUnder}
 use Rattle.frontier.specs.Frontier.{Small, lesser}
 use Rattle.frontier.proofs.HighSwitch.{right-where}
+use Rattle.crossing.specs.Crossed.{StuckAt}
 use Rattle.crossing.proofs.Routing.{front-on, none-ahead, found-ahead}
 use Rattle.crossing.proofs.cross.Statement.{statement}
 use Rattle.crossing.proofs.cross.Tie as tie
@@ -75,17 +76,22 @@ advance-requires c κs =
 reached-requires : tie.Need-reached-requires Inv-loop μ-loop
 reached-requires c κs = search needs
 
+ways-onward-requires : tie.Need-ways-onward-requires Inv-loop μ-loop
+ways-onward-requires c κs = search needs
+
 returns : tie.Need-returns Inv-loop μ-loop
 returns c = λ rule under.
-    let a = c .before .before .before .before .before .before .before .before .before .args in
-    let v = c .before .before .before .before .before .before .loop in
+    let before = c .before .before .before .before .before .before .before in
+    let a = before .before .before .before .args in
+    let v = before .loop in
     let w = v .inv in
     let right =
-    right-where (a .n) (a .source) (a .destination) _ (search needs) (search needs) (c .before .before .before .before .before .before .before .before .distance .ensures) (v .i) (omega arith)
-    ∙ ap (λ (b : ℕ). eqb b 0) (sym (c .before .before .before .bit-of2 .ensures .0)) in
+    right-where (a .n) (a .source) (a .destination) _ (search needs) (search needs) (before .before .before .distance .ensures) (v .i) (omega arith)
+    ∙ ap (λ (b : ℕ). eqb b 0) (sym (c .before .before .before .before .bit-of2 .ensures .0)) in
     let held = w .holds rule under in
-    let next = front-on (a .n) rule (a .source) (a .destination) (search needs) (a .stops) under (v .i) _ _ _ (omega arith) right (c .before .before .before .before .bit-of .ensures .0) (ap (λ (x : ℕ). x % 16) (w .onward)) (v .front) _ (c .before .before .advance .ensures) held in
-    none-ahead (a .n) rule (a .source) (a .destination) (search needs) (v .i) (omega arith) (v .front) _ held (w .reached) next (c .before .reached .ensures .1 (not-true _ (c .if1 .taken)))
+    let next = front-on (a .n) rule (a .source) (a .destination) (search needs) (a .stops) under (v .i) _ _ _ (omega arith) right (c .before .before .before .before .before .bit-of .ensures .0) (ap (λ (x : ℕ). x % 16) (w .onward)) (v .front) _ (c .before .before .before .advance .ensures) held in
+    subst (StuckAt (a .n) rule (a .source) (a .destination) (v .i)) (sym (c .ways-onward .ensures .0))
+    (none-ahead (a .n) rule (a .source) (a .destination) (search needs) (v .i) (omega arith) _ right (v .front) _ held (w .reached) next (c .before .before .reached .ensures .1 (not-true _ (c .before .if1 .taken))))
 
 add-i : tie.Need-add-i Inv-loop μ-loop
 add-i c = search needs
@@ -141,6 +147,7 @@ cross-spec =
     cast-advance
     advance-requires
     reached-requires
+    ways-onward-requires
     returns
     add-i
     loop-less

@@ -9,8 +9,8 @@ enum-told c = search needs
 enum-known-answer : tie.Need-enum-known-answer
 enum-known-answer c = search needs
 
-cast-value : tie.Need-cast-value
-cast-value c = search needs
+stopped-at-requires : tie.Need-stopped-at-requires
+stopped-at-requires c κs = search needs
 
 value-requires : tie.Need-value-requires
 value-requires c κs = search needs
@@ -31,7 +31,7 @@ returns : tie.Need-returns
 returns c = search needs
 
 returns-2 : tie.Need-returns-2
-returns-2 c = rw (c .value .ensures, c .before .before .answer .given .1)
+returns-2 c = rw (c .value .ensures, c .before .stopped-at .ensures .0, c .before .before .before .answer .given .1)
 
 returns-3 : tie.Need-returns-3
 returns-3 c = search needs
@@ -45,7 +45,7 @@ ended-spec =
     (tie.spec
     enum-told
     enum-known-answer
-    cast-value
+    stopped-at-requires
     value-requires
     add-result
     enum-told-2

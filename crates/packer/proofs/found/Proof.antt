@@ -1,5 +1,4 @@
 -- The number of each case.
-use native.Mathlib.Omega.{arith}
 use borrow.Author.Needs.{needs}
 use Rattle.packer.proofs.found.Statement.{statement}
 use Rattle.packer.proofs.found.Tie as tie
@@ -16,8 +15,8 @@ value-requires c κs = search needs
 enum-known-answer-2 : tie.Need-enum-known-answer-2
 enum-known-answer-2 c = search needs
 
-cast-value-2 : tie.Need-cast-value-2
-cast-value-2 c = search needs
+stopped-at-requires : tie.Need-stopped-at-requires
+stopped-at-requires c κs = search needs
 
 value-requires-2 : tie.Need-value-requires-2
 value-requires-2 c κs = search needs
@@ -35,7 +34,7 @@ returns : tie.Need-returns
 returns c = rw (c .value .ensures, c .before .before .answer .given .1)
 
 returns-2 : tie.Need-returns-2
-returns-2 c = rw (c .value2 .ensures, c .before .before .answer2 .given .1) (omega arith)
+returns-2 c = rw (c .value2 .ensures, c .before .stopped-at .ensures .0, c .before .before .before .answer2 .given .1)
 
 returns-3 : tie.Need-returns-3
 returns-3 c = search needs
@@ -48,7 +47,7 @@ found-spec =
     cast-value
     value-requires
     enum-known-answer-2
-    cast-value-2
+    stopped-at-requires
     value-requires-2
     add-result
     enum-known-answer-3

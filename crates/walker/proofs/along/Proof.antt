@@ -63,7 +63,7 @@ returns-2 : tie.Need-returns-2 Inv-loop μ-loop
 returns-2 c =
     let a = c .before .before .before .before .before .args in
     let v = c .before .before .before .before .loop in
-    stopped-here (a .book .n) (stopsOf (a .book)) (a .source) (a .tag) (v .i) (v .j) _ (omega arith) (v .inv .3) (c .before .before .step-of .ensures .0) (v .inv .4) (λ e. let f = c .before .stopper .ensures in let g = c .if2 .taken in omega arith)
+    stopped-here (a .book .n) (stopsOf (a .book)) (a .source) (a .tag) (v .i) (v .j) _ (omega arith) (v .inv .3) (c .before .before .step-of .ensures .0) _ (v .inv .4) (c .before .stopper .ensures) (c .if2 .taken)
 
 pub along-spec : {M : Type 1} → statement M
 along-spec =
