@@ -1,4 +1,4 @@
-//! A router in plain Rust, written for speed from documents 01 and 02 (§2) alone and sharing nothing with the proved one. As the proved
+//! A router in plain Rust, written for speed from documents 01 and 02 (§2, §3) alone and sharing nothing with the proved one. As the proved
 //! router does, it answers each question from the list of notices and keeps nothing between two questions. `route` tests no book, `judged`
 //! first tests the one that it is given, as 01's number 16 asks.
 //!
@@ -42,7 +42,7 @@ pub struct Standing<'a> {
 /// is no clear walk.
 const LOST: u32 = 1 << 13;
 
-/// The set that stands for a switch that may not be entered, beside straight 1, plus 2 and minus 4.
+/// The set that stands for a switch that may not be entered, or in column 0 not left, beside straight 1, plus 2 and minus 4.
 const CLOSED: u8 = 8;
 
 /// Where the four bits of a column start. A product with one of these costs less than a shift by a variable.
@@ -175,6 +175,13 @@ impl Walks {
     fn first(&self) -> u32 {
         self.straight.min(self.fork)
     }
+
+    /// Whether the switch where they begin is CLOSED: no walk leaves it.
+    #[inline(always)]
+    fn dead(&self) -> bool {
+        let source = if self.distance & 1 == 0 { self.right } else { self.wrong };
+        source & CLOSED as u64 != 0
+    }
 }
 
 pub fn route(n: u32, standing: Standing, source: u32, destination: u32) -> Answer {
@@ -184,6 +191,9 @@ pub fn route(n: u32, standing: Standing, source: u32, destination: u32) -> Answe
     for _ in 0..n {
         walks.cross();
         crossed += (walks.first() < LOST) as u32;
+    }
+    if begun.dead() {
+        crossed = 0;
     }
     if crossed < n {
         return none(n, standing, source, begun, crossed);
@@ -236,6 +246,7 @@ impl Ways {
     fn stopped_by(&self, target: Target) -> bool {
         match target {
             Target::Links { switch, set, .. } => self.stopped(set, |label| label == switch),
+            Target::Switch { column: 0, switch } => self.stopped(7, |label| label == switch),
             Target::Switch { switch, .. } => self.ends.contains(&Some(switch)),
             Target::Pattern { value, mask, set, .. } => self.stopped(set, |label| label & mask == value),
         }
@@ -250,12 +261,12 @@ impl Ways {
     }
 }
 
-/// The stage whose links the target names; no stage for column 0.
+/// The stage whose links the target names.
 #[inline(always)]
 fn stage_of(target: Target) -> u8 {
     match target {
         Target::Links { stage, .. } | Target::Pattern { stage, .. } => stage,
-        Target::Switch { column, .. } => column.wrapping_sub(1),
+        Target::Switch { column, .. } => column.saturating_sub(1),
     }
 }
 

@@ -43,7 +43,7 @@ pub fn action(what: u8, number: u32, kind: u8, stage: u32, switch: u32, mask: u3
     [what, x[0], x[1], kind, stage as u8, j[0], j[1], m[0], m[1], set as u8]
 }
 
-/// 48 filings, a third of each kind, each on a switch that some asked route can meet.
+/// 48 filings, a third of each kind, each on a switch that some asked route can meet; one of them is of a source, in column 0.
 pub fn filings(pool: &Pool, numbers: &mut Numbers) -> Vec<u8> {
     let size = 1 << N;
     let mut rows = Vec::new();
@@ -57,6 +57,7 @@ pub fn filings(pool: &Pool, numbers: &mut Numbers) -> Vec<u8> {
         let below = numbers.below(2) == 1;
         let row = match k % 3 {
             0 => action(1, 1000 - k, 1, i, near(i, below), 0, 1 + numbers.below(7)),
+            1 if k == 1 => action(1, 1000 - k, 2, 0, s, 0, 0),
             1 => action(1, 1000 - k, 2, i + 1, near(i + 1, below), 0, 0),
             _ => {
                 let mut mask = 0u32;

@@ -1,4 +1,4 @@
-/* Tabashfar for C: the entries of document 01, and of document 02's §1 and §2, over numbers and byte slices.
+/* Tabashfar for C: the entries of document 01, and of document 02's §1 to §3, over numbers and byte slices.
  *
  * A slice is two arguments, where its bytes start and how many there are. The bytes of a `const` slice are only read. Of lent memory
  * (`memory`, `answers`) exactly what is said at the function is written, and nothing where the call is refused. A slice may be empty; its pointer

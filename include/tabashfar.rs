@@ -1,4 +1,4 @@
-//! Tabashfar for Rust: the entries of document 01, and of document 02's §1 and §2, over slices, safe to call, as a module of a program of
+//! Tabashfar for Rust: the entries of document 01, and of document 02's §1 to §3, over slices, safe to call, as a module of a program of
 //! edition 2018 or later. The static library of the crate `face` is linked beside it; tabashfar.h says what each entry writes and answers,
 //! and what linking needs.
 //!

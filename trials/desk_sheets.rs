@@ -54,6 +54,7 @@ fn bytes(title: &str, sheet: Vec<u8>) -> Told {
 pub fn all() -> Vec<Told> {
     let mut all = vec![example(), filings(), full(), withdrawings(), routes(), faults()];
     all.extend(notices_named());
+    all.extend([dead_card(), label_of_a_dead_card()]);
     all.extend(counts());
     all.extend(lengths());
     all.extend(headers());
@@ -333,6 +334,41 @@ fn last_number() -> Told {
             withdraw(512),
             withdraw(65280),
             route(4095, 4095),
+        ],
+    )
+}
+
+fn label_of_a_dead_card() -> Told {
+    sheet(
+        "the label of a dead card is reached at a later stage: there neither its notice is named nor one of an earlier column",
+        3,
+        vec![switch(1, 0, 4), switch(2, 1, 0), links(9, 1, 4, 1), links(8, 1, 6, 6), route(5, 4), withdraw(8), route(5, 4), route(4, 5)],
+    )
+}
+
+fn dead_card() -> Told {
+    sheet(
+        "a dead card in column 0: no route leaves it, those of other sources go on, to its label too; the lowest number out of it",
+        3,
+        vec![
+            switch(6, 0, 5),
+            route(5, 5),
+            route(5, 4),
+            route(5, 2),
+            route(4, 5),
+            route(6, 5),
+            links(3, 0, 5, 1),
+            route(5, 5),
+            route(5, 4),
+            switch(2, 1, 4),
+            route(5, 4),
+            switch(1, 0, 4),
+            route(5, 4),
+            route(4, 4),
+            withdraw(2),
+            withdraw(6),
+            route(5, 4),
+            route(5, 5),
         ],
     )
 }

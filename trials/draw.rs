@@ -168,6 +168,7 @@ impl Draw {
         let set = 1 << code | if self.one_in(3) { self.below(8) as u8 } else { 0 };
         match self.below(if n == 1 { 2 } else { 3 }) {
             0 => Target::Links { stage, switch, set },
+            1 if stage == 0 && self.one_in(2) => Target::Switch { column: 0, switch },
             1 => Target::Switch { column: stage + 1, switch: far_end },
             _ => {
                 let mut mask = self.below(1 << n) as u16;

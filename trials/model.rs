@@ -1,4 +1,4 @@
-//! A reference model of document 01 ("What the build covers, and its rules") and of document 02's §1 and §2, by the most obvious means.
+//! A reference model of document 01 ("What the build covers, and its rules") and of document 02's §1 to §3, by the most obvious means.
 //! Sentences in quotation marks are the documents' own. It was written from the documents alone, without sight of the proved code.
 #![allow(dead_code)]
 
@@ -273,26 +273,29 @@ fn set_has(set: u8, code: u8) -> bool {
     set & weight != 0
 }
 
-/// The stage whose links the target names: "Links: stage 0 to n-1", "for column i above 0, at stage i-1", "Pattern: stage"; none for column 0.
-fn stage_of(target: Target) -> Option<u8> {
+/// The stage whose links the target names: "Links: stage 0 to n-1", "for column i above 0, at stage i-1", "Pattern: stage"; 02, §3: in column 0
+/// "at stage 0".
+fn stage_of(target: Target) -> u8 {
     match target {
-        Target::Links { stage, .. } | Target::Pattern { stage, .. } => Some(stage),
-        Target::Switch { column, .. } => column.checked_sub(1),
+        Target::Links { stage, .. } | Target::Pattern { stage, .. } => stage,
+        Target::Switch { column: 0, .. } => 0,
+        Target::Switch { column, .. } => column - 1,
     }
 }
 
 /// "1. Links: stage 0 to n-1, switch, and a set". "2. Switch: column 0 to n and switch. It stops the switch's
 /// input links: for column i above 0, at stage i-1, the straight link of j, plus of j - 2^(i-1), minus of
-/// j + 2^(i-1). Column 0 has no input links, so there it stops nothing." "3. Pattern: stage, value, mask, set.
+/// j + 2^(i-1)." 02, §3: "a switch notice in column 0 stops the three output links of that switch at stage 0". "3. Pattern: stage, value, mask, set.
 /// It names every switch whose bits under the mask equal the value."
 ///
 /// Whether the target names the link with this code of switch j at the stage `at`.
 pub fn names(n: u8, target: Target, at: u8, j: u16, code: u8) -> bool {
-    if stage_of(target) != Some(at) {
+    if stage_of(target) != at {
         return false;
     }
     match target {
         Target::Links { switch, set, .. } => j == switch && set_has(set, code),
+        Target::Switch { column: 0, switch } => j == switch,
         Target::Switch { switch, .. } => match code {
             STRAIGHT => j == switch,
             PLUS => j == minus_of(n, at, switch),
@@ -420,7 +423,7 @@ impl Book {
     fn reached_clear(&self, source: u16, links: u8) -> Vec<u16> {
         let mut reached = vec![source];
         for stage in 0..links {
-            let here: Vec<&Notice> = self.notices.iter().filter(|notice| stage_of(notice.target) == Some(stage)).collect();
+            let here: Vec<&Notice> = self.notices.iter().filter(|notice| stage_of(notice.target) == stage).collect();
             let mut arrives = vec![false; labels(self.n) as usize];
             for switch in reached {
                 for code in [STRAIGHT, PLUS, MINUS] {

@@ -33,10 +33,10 @@ impl Between {
         draw.naming(self.n, named)
     }
 
-    /// A target that stops what leads to a switch from which a path goes on at the one stage.
+    /// A target that stops what leads to a switch from which a path goes on at the one stage, or what leaves its label in column 0.
     fn before(&self, draw: &mut Draw) -> Target {
-        let column = self.stage;
-        let switch = draw.link_between(self.n, self.source, self.destination, column).switch;
+        let switch = draw.link_between(self.n, self.source, self.destination, self.stage).switch;
+        let column = if draw.one_in(2) { 0 } else { self.stage };
         Target::Switch { column, switch }
     }
 
@@ -135,6 +135,12 @@ fn temptations(compared: &mut Compared, book: &Book, rows: &[Row], source: u16, 
     if stage == n - 1 {
         compared.tempts("no clear path, at the last stage");
     }
+    if let Some(dead) = book.standing().iter().find(|x| x.target == Target::Switch { column: 0, switch: source }) {
+        compared.tempts("no clear path, the source is a dead card of column 0");
+        if dead.number != notice {
+            compared.tempts("no clear path, the source is a dead card and another notice has the lowest number");
+        }
+    }
     if first_filed(book, rows, stage, &ways) != Some(notice) {
         compared.tempts("no clear path, the lowest number was not filed first");
     }
@@ -146,6 +152,14 @@ fn temptations(compared: &mut Compared, book: &Book, rows: &[Row], source: u16, 
     }
     if met_by_state_0(book, source, destination) != Some(notice) {
         compared.tempts("no clear path, the walk of state 0 meets another notice");
+    }
+    let of_lower_number: Vec<Target> = book.standing().iter().filter(|x| x.number < notice).map(|x| x.target).collect();
+    if stage > 0 && of_lower_number.iter().any(|&target| is_a_card_that(target, |column, label| column == 0 && ways.iter().any(|way| way.0 == label))) {
+        compared.tempts("no clear path, a lower number on a card of column 0 whose label the ways leave later");
+    }
+    let ends: Vec<u16> = ways.iter().map(|way| model::far_end(n, stage, way.0, way.1)).collect();
+    if of_lower_number.iter().any(|&target| is_a_card_that(target, |column, label| column <= stage && ends.contains(&label))) {
+        compared.tempts("no clear path, a lower number on a card of an earlier column whose label the ways lead to");
     }
     let undamaged = links_between(n, source, destination);
     let lower = |stage: u8, switch: u16, code: u8| matches!(book.link(stage, switch, code), Ok(Some(k)) if k < notice);
@@ -159,6 +173,11 @@ fn temptations(compared: &mut Compared, book: &Book, rows: &[Row], source: u16, 
     if undamaged.iter().any(|&(i, j, c)| i > stage && lower(i, j, c)) {
         compared.tempts("no clear path, a lower number at a later stage");
     }
+}
+
+/// Whether the target is a switch with such a column and label.
+fn is_a_card_that(target: Target, such: impl Fn(u8, u16) -> bool) -> bool {
+    matches!(target, Target::Switch { column, switch } if such(column, switch))
 }
 
 /// Of the notices that stop a way onward, the number of the one that was filed first.

@@ -3,7 +3,7 @@
 use crate::compared::Compared;
 use crate::draw::Draw;
 use crate::entries;
-use crate::model::{book_of, Notice, Target};
+use crate::model::{book_of, far_end, Notice, Target};
 use crate::rows::{filing, question, sheet_of, withdrawal, Row};
 
 pub fn all(compared: &mut Compared, draw: &mut Draw) {
@@ -15,6 +15,7 @@ pub fn all(compared: &mut Compared, draw: &mut Draw) {
         tags(compared, draw, n);
         codes(compared, draw, n);
         notices(compared, n);
+        columns(compared, draw, n);
     }
     numbers(compared);
     numbers_named(compared);
@@ -124,6 +125,30 @@ fn notices(compared: &mut Compared, n: u8) {
             file(Target::Pattern { stage: 0, value: 1 << low, mask: 3, set: 7 });
             file(Target::Links { stage: 0, switch: mask, set: 7 });
             file(Target::Switch { column: 0, switch: mask });
+        }
+    }
+}
+
+/// A switch notice in each column, beside a links notice of stage 0 or one of the next switch in column 0, whose number is higher or lower: every link
+/// of the labels around the switch, routes between them and a walk from each.
+fn columns(compared: &mut Compared, draw: &mut Draw, n: u8) {
+    for column in 0..=n {
+        let switch = draw.below(1 << n) as u16;
+        let links = Target::Links { stage: 0, switch, set: 1 + draw.below(7) as u8 };
+        let next = Target::Switch { column: 0, switch: far_end(n, 0, switch, 1) };
+        let mut around: Vec<u16> = (0..n).flat_map(|i| [1, 2].map(|code| far_end(n, i, switch, code))).collect();
+        around.push(switch);
+        for (number, beside, target) in [(1, 2, links), (2, 1, links), (1, 2, next), (2, 1, next)] {
+            let notices = [Notice { number, target: Target::Switch { column, switch } }, Notice { number: beside, target }];
+            let sheet = sheet_of(n, &notices.map(filing));
+            let book = book_of(&sheet);
+            for &label in &around {
+                (0..3 * n).for_each(|link| entries::link(compared, &sheet, &book, link / 3, label, link % 3));
+                entries::walk(compared, &sheet, &book, label, draw.below(1 << (2 * n)));
+                for &destination in &around {
+                    entries::route(compared, &sheet, &book, label, destination);
+                }
+            }
         }
     }
 }

@@ -22,6 +22,7 @@ fn main() {
     example_13();
     used_again();
     inputs();
+    outputs();
     lowest();
     full::run();
     refusals::run();
@@ -160,7 +161,7 @@ fn used_again() {
     link(b6, 2, 0, 0);
 }
 
-// "It stops the switch's input links", reduced modulo N; "Column 0 has no input links"; plus and minus at the last stage.
+// "It stops the switch's input links", reduced modulo N; plus and minus at the last stage.
 fn inputs() {
     word(b"input links\n");
     let b0 = open(3);
@@ -175,11 +176,25 @@ fn inputs() {
     link(b2, 2, 4, 1);
     link(b2, 2, 4, 2);
     link(b2, 2, 0, 1);
-    let b3 = file(b2, switch(3, 0, 5));
-    link(b3, 0, 5, 0);
-    let b4 = file(b3, links(4, 2, 5, 2));
-    link(b4, 2, 5, 1);
-    link(b4, 2, 5, 2);
+    let b3 = file(b2, links(4, 2, 5, 2));
+    link(b3, 2, 5, 1);
+    link(b3, 2, 5, 2);
+}
+
+// Document 02, §3: "a switch notice in column 0 stops the three output links of that switch at stage 0", and no others.
+fn outputs() {
+    word(b"output links\n");
+    let b0 = open(3);
+    let b1 = file(b0, switch(3, 0, 5));
+    link(b1, 0, 5, 0);
+    link(b1, 0, 5, 1);
+    link(b1, 0, 5, 2);
+    link(b1, 0, 4, 0);
+    link(b1, 0, 4, 1);
+    link(b1, 0, 6, 2);
+    link(b1, 1, 5, 0);
+    let b2 = withdraw(b1, 3);
+    link(b2, 0, 5, 0);
 }
 
 // Document 02, §2: the lowest number among the notices that stop the link, whatever was filed first and whatever its target.

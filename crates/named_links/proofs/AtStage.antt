@@ -1,12 +1,16 @@
 -- Of one stage's three links on ways, those that a target names, as a set.
-use mathlib.Core.Path.{_≡_, refl, ap, _∙_}
+use mathlib.Core.Path.{_≡_, refl, sym, ap, _∙_}
 use mathlib.Core.Bool.{Bool, true, false, cond, _&&_}
-use Prim.Native.Nat.{ℕ, _≤_}
+use Prim.Native.Nat.{ℕ, _+_, _≤_}
 use native.Mathlib.Omega.{arith}
+use borrow.Author.Tests.{ne-eqb}
 use lib.Dec.{eqb}
+use Rattle.fabric.specs.Links.{lands}
 use Rattle.frontier.specs.Stops.{has}
 use Rattle.frontier.proofs.Sets.{part-has}
-use Rattle.notices.specs.Targets.{setHas}
+use Rattle.notices.specs.declared.Target.the-variants.{Switch}
+use Rattle.notices.specs.Targets.{setHas, targetNames}
+use Rattle.notices.proofs.Named.{column-0-as-links}
 use Rattle.named_links.specs.Named.{SetWhere, ofTwo}
 
 -- the set where a target is of the stage, and none where it is not
@@ -24,3 +28,18 @@ tested-where straight fork b test set named r w part =
     same true true has = refl
     same true false has = refl
     same false zero has = refl
+
+-- what a switch notice names in column 0, and in another
+pub column-0-where : (n i straight fork column switch named r : ℕ) → column ≡ 0
+    → SetWhere (λ c. cond (eqb c 0) (eqb straight switch) (eqb fork switch) && setHas 7 c) named → (r ≡ cond (eqb i 0) named 0) × (r ≤ named)
+    → SetWhere (λ c. targetNames n (Switch column switch) i (ofTwo straight fork c) c) r
+column-0-where n i straight fork column switch named r zero w part =
+    let v = tested-where straight fork (eqb i 0) (λ j. eqb j switch) 7 named r w part in
+    (v .0, λ c h. rw zero (v .1 c h ∙ sym (column-0-as-links n switch i (ofTwo straight fork c) c h)))
+
+pub column-where : (n i straight fork column switch named r : ℕ) → (column ≡ 0 → ⊥)
+    → SetWhere (λ c. eqb (lands n i c (ofTwo straight fork c)) switch) named → (r ≡ cond (eqb (i + 1) column) named 0) × (r ≤ named)
+    → SetWhere (λ c. targetNames n (Switch column switch) i (ofTwo straight fork c) c) r
+column-where n i straight fork column switch named r above w part =
+    let v = part-where (eqb (i + 1) column) (λ c. eqb (lands n i c (ofTwo straight fork c)) switch) named r w part in
+    (v .0, λ c h. rw (ne-eqb column 0 above) (v .1 c h))

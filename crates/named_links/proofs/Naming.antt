@@ -15,7 +15,8 @@ use Rattle.fabric.specs.Links.{lands}
 use Rattle.frontier.specs.declared.Stops.{Stops}
 use Rattle.frontier.specs.Stops.{has, setAt}
 use Rattle.notices.specs.declared.Target.the-variants.{Links, Switch, Pattern}
-use Rattle.notices.specs.Targets.{setHas}
+use Rattle.notices.specs.Targets.{setHas, targetNames}
+use Rattle.notices.proofs.Named.{column-0-as-links}
 use Rattle.named_links.specs.Named.{outOf, Ways, WithTarget, WithSet, WithInputs}
 
 nothing-more : (b : Bool) {more : Bool} → more ≡ false → b ≡ (b || more)
@@ -66,14 +67,17 @@ module _ (n : ℕ) (straights forks : List ℕ) (stage : ℕ) (set : ℕ) (old n
       let other = neither (eqb (getD straights stage 0) switch) (eqb (getD forks stage 0) switch) e in
       record { at = λ i c inside h. nothing-more (has (setAt i old) c) (none-set straights forks (λ j. eqb j switch) stage (other .0) (other .1) i c (setHas set c)) }
 
--- the input links of a switch
+-- the links that a switch notice names
 module _ (n : ℕ) (straights forks : List ℕ) (column switch : ℕ) (old : Stops) where
-  pub column-0-none : column ≡ 0 → WithTarget n straights forks (Switch column switch) old old
-  column-0-none e = record { at = λ i c inside h. nothing-more (has (setAt i old) c) (none i c (outOf straights forks i c)) }
-    where
-      none : (i c j : ℕ) → (eqb (i + 1) column && eqb (lands n i c j) switch) ≡ false
-      none i c j = rw (ne-eqb (i + 1) column (λ f. omega arith))
+  -- in column 0, all three of the switch's own
+  pub column-0-more : column ≡ 0 → (new : Stops) → WithTarget n straights forks (Links 0 switch 7) old new → WithTarget n straights forks (Switch column switch) old new
+  column-0-more e new w =
+      record {
+        at = λ i c inside h.
+            rw e (w .at i c inside h ∙ ap (λ (b : Bool). has (setAt i old) c || b) (sym (column-0-as-links n switch i (outOf straights forks i c) c h)));
+      }
 
+  -- elsewhere its input links
   module _ (some : column ≡ 0 → ⊥) where
     abbrev leads : ℕ → ℕ → Bool
     leads i c = eqb (lands n i c (outOf straights forks i c)) switch
@@ -85,13 +89,16 @@ module _ (n : ℕ) (straights forks : List ℕ) (column switch : ℕ) (old : Sto
         go (yes e) = rw (eq-eqb i (column - 1) e, eq-eqb (i + 1) column (omega arith), e)
         go (no e) = rw (ne-eqb i (column - 1) e, ne-eqb (i + 1) column (λ f. e (omega arith)))
 
+    own-names : (i c : ℕ) → (eqb i (column - 1) && leads (column - 1) c) ≡ targetNames n (Switch column switch) i (outOf straights forks i c) c
+    own-names i c = rw (ne-eqb column 0 some) (own-end i c)
+
     pub switch-more : (new : Stops) → WithInputs n straights forks (column - 1) switch old new → WithTarget n straights forks (Switch column switch) old new
-    switch-more new w = record { at = λ i c inside h. w i c h ∙ ap (λ (b : Bool). has (setAt i old) c || b) (own-end i c) }
+    switch-more new w = record { at = λ i c inside h. w i c h ∙ ap (λ (b : Bool). has (setAt i old) c || b) (own-names i c) }
 
     -- where the switch is none of its column's two, no link on ways leads to it
     pub switch-none : Ways n straights forks → column ≤ n → (eqb (getD straights column 0) switch || eqb (getD forks column 0) switch) ≡ false
         → WithTarget n straights forks (Switch column switch) old old
-    switch-none ways inside e = record { at = λ i c _ h. nothing-more (has (setAt i old) c) (sym (own-end i c) ∙ rw (elsewhere c h) (last (eqb i (column - 1)))) }
+    switch-none ways inside e = record { at = λ i c _ h. nothing-more (has (setAt i old) c) (sym (own-names i c) ∙ rw (elsewhere c h) (last (eqb i (column - 1)))) }
       where
         other : (eqb (getD straights column 0) switch ≡ false) × (eqb (getD forks column 0) switch ≡ false)
         other = neither (eqb (getD straights column 0) switch) (eqb (getD forks column 0) switch) e

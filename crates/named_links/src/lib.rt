@@ -1,5 +1,5 @@
 // Which links on ways from a source to a destination a notice names. It is held against the two switches of its stage, or of its
-// column where it stops a switch. A notice of one switch names neither in most questions, and is passed over; a pattern is not, since a
+// column where it is of a switch. A notice of one switch names neither in most questions, and is passed over; a pattern is not, since a
 // test of it is wrong too often.
 use at_stage::inputs;
 use at_stage::meant;
@@ -100,7 +100,8 @@ fn with_set(stage: u8, straight: bool, fork: bool, set: u8, stops: Stops) -> Sto
     with_stopped(stops, stage, meant(straight, fork, set))
 }
 
-// The input links of a switch, which leave the column before its own. Every link on ways leads to one of a column's two switches.
+// The links that leave a switch of column 0, set 7, and the input links of any other, which leave the column before its own. Every link on ways leads to
+// one of a column's two switches.
 fn with_switch(
     n: u8,
     straights: &[u16; 13],
@@ -113,7 +114,7 @@ fn with_switch(
     ensures { λ r. ⌜ WithTarget n (now (straights .entry)) (now (forks .entry)) (Switch column switch) stops r ⌝ }
 {
     if column == 0 {
-        return stops;
+        return with_links(straights, forks, 0, switch, 7, stops);
     }
     let straight = straights[column as usize] == switch;
     let fork = forks[column as usize] == switch;

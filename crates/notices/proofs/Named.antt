@@ -1,6 +1,6 @@
--- Which links a notice of each target names, in document 01's own terms.
+-- Which links a notice of each target names, in the documents' own terms.
 use mathlib.Core.Path.{_≡_, refl, sym, ap, _∙_}
-use mathlib.Core.Bool.{true, false, _&&_}
+use mathlib.Core.Bool.{Bool, true, false, _&&_}
 use mathlib.Core.Logic.{inl, inr, ⊎-elim, _↔_}
 use Prim.Native.Nat.{ℕ, zero, suc, _+_, _/_, _%_, _^_, _≤_, _<_, min}
 use native.Mathlib.Nat.{mod-lt, div-eq-of-lt, pow-suc}
@@ -16,7 +16,7 @@ use Rattle.fabric.proofs.Bits.{bit-lt, bit-of-low, agree-by-bits, agree-below}
 use Rattle.fabric.proofs.Links.{each-code, minus-then-plus, plus-then-minus}
 use Rattle.notices.specs.declared.Notice.{Notice}
 use Rattle.notices.specs.declared.Target.the-variants.{Links, Switch, Pattern}
-use Rattle.notices.specs.Targets.{setHas, Input}
+use Rattle.notices.specs.Targets.{setHas, Input, targetNames}
 use Rattle.notices.specs.Notices.{names}
 use Rattle.table.proofs.Checks.{both-hold}
 
@@ -42,7 +42,53 @@ stopped-separately n x y stage switch plus minus =
     let f = eq-eqb switch switch refl in
     (rw (plus, e, f), rw (plus, e, f), rw (minus, e, f), rw (minus, e, f))
 
--- a switch notice names the input links that 01 lists
+-- 02, §3: "a switch notice in column 0 stops the three output links of that switch at stage 0"
+pub column-0-names-outputs : (n : ℕ) (x : Notice) (w i j c : ℕ) → x .target ≡ Switch 0 w → (names n x i j c ≡ true) ↔ ((i ≡ 0) × (j ≡ w))
+column-0-names-outputs n x w i j c is =
+    let o = both-hold (eqb i 0) (eqb j w) in
+    rw is ((λ e. let v = o .0 e in (eqb-true i 0 (v .0), eqb-true j w (v .1))), (λ v. o .1 (eq-eqb i 0 (v .0), eq-eqb j w (v .1))))
+
+-- they are what a links notice with all three of them names
+pub column-0-as-links : (n w i j c : ℕ) → Code c → targetNames n (Switch 0 w) i j c ≡ targetNames n (Links 0 w 7) i j c
+column-0-as-links n w i j = each-code (λ c. targetNames n (Switch 0 w) i j c ≡ targetNames n (Links 0 w 7) i j c) whole whole whole
+  where
+    all : (b : Bool) → b ≡ (b && true)
+    all true = refl
+    all false = refl
+
+    whole : (eqb i 0 && eqb j w) ≡ (eqb i 0 && eqb j w && true)
+    whole = all (eqb i 0 && eqb j w)
+
+-- "Other columns stay as they are.": before, this was what a switch notice of any column named
+pub other-columns-as-before : (n : ℕ) (x : Notice) (column w i j c : ℕ) → x .target ≡ Switch column w → (column ≡ 0 → ⊥)
+    → names n x i j c ≡ (eqb (i + 1) column && eqb (lands n i c j) w)
+other-columns-as-before n x column w i j c is above = rw (is, ne-eqb column 0 above)
+
+-- no second meaning: whatever names these links in column 0, and elsewhere what was named before, is what a switch notice names
+pub switch-names-once : (n : ℕ) (f : ℕ → ℕ → ℕ → ℕ → ℕ → Bool)
+    → ((w i j c : ℕ) → (f 0 w i j c ≡ true) ↔ ((i ≡ 0) × (j ≡ w)))
+    → ((column w i j c : ℕ) → (column ≡ 0 → ⊥) → f column w i j c ≡ (eqb (i + 1) column && eqb (lands n i c j) w))
+    → (column w i j c : ℕ) → f column w i j c ≡ targetNames n (Switch column w) i j c
+switch-names-once n f zeroth others column w i j c = go (ℕ-discrete column 0)
+  where
+    same : (a b : Bool) → (a ≡ true → b ≡ true) → (b ≡ true → a ≡ true) → a ≡ b
+    same true b to back = sym (to refl)
+    same false true to back = back refl
+    same false false to back = refl
+
+    ours : (names n (record { number = 1; target = Switch 0 w }) i j c ≡ true) ↔ ((i ≡ 0) × (j ≡ w))
+    ours = column-0-names-outputs n (record { number = 1; target = Switch 0 w }) w i j c refl
+
+    go : Dec (column ≡ 0) → f column w i j c ≡ targetNames n (Switch column w) i j c
+    go (yes e) = rw e (same (f 0 w i j c) (targetNames n (Switch 0 w) i j c) (λ h. ours .1 (zeroth w i j c .0 h)) (λ h. zeroth w i j c .1 (ours .0 h)))
+    go (no e) = others column w i j c e ∙ sym (other-columns-as-before n (record { number = 1; target = Switch column w }) column w i j c refl e)
+
+-- in such a column a switch notice names links of the stage before it alone
+pub switch-names-before : (n : ℕ) (x : Notice) (column w i j c : ℕ) → x .target ≡ Switch column w → (column ≡ 0 → ⊥) → names n x i j c ≡ true → i + 1 ≡ column
+switch-names-before n x column w i j c is above e =
+    eqb-true (i + 1) column (both-hold (eqb (i + 1) column) (eqb (lands n i c j) w) .0 (rw (other-columns-as-before n x column w i j c is above) at e) .0)
+
+-- and it names the input links that 01 lists
 module _ (n i w j : ℕ) (stage : i < n) (to : w < size n) (from : j < size n) where
   pub lands-inputs : (c : ℕ) → Code c → (lands n i c j ≡ w) ↔ Input n i w j c
   lands-inputs =
@@ -60,15 +106,8 @@ module _ (n i w j : ℕ) (stage : i < n) (to : w < size n) (from : j < size n) w
   switch-names-inputs x c is h =
       let o = both-hold (eqb (i + 1) (i + 1)) (eqb (lands n i c j) w) in
       let l = lands-inputs c h in
-      rw is ((λ e. l .0 (eqb-true (lands n i c j) w (o .0 e .1))), (λ v. o .1 (eq-eqb (i + 1) (i + 1) refl, eq-eqb (lands n i c j) w (l .1 v))))
-
--- it names links of no other stage
-pub switch-names-before : (n : ℕ) (x : Notice) (column w i j c : ℕ) → x .target ≡ Switch column w → names n x i j c ≡ true → i + 1 ≡ column
-switch-names-before n x column w i j c is e = eqb-true (i + 1) column (both-hold (eqb (i + 1) column) (eqb (lands n i c j) w) .0 (rw is at e) .0)
-
--- "Column 0 has no input links, so there it stops nothing."
-pub column-0-names-none : (n : ℕ) (x : Notice) (w i j c : ℕ) → x .target ≡ Switch 0 w → names n x i j c ≡ false
-column-0-names-none n x w i j c is = rw (is, ne-eqb (i + 1) 0 (λ e. omega arith))
+      rw (other-columns-as-before n x (i + 1) w i j c is (λ e. omega arith))
+      ((λ e. l .0 (eqb-true (lands n i c j) w (o .0 e .1))), (λ v. o .1 (eq-eqb (i + 1) (i + 1) refl, eq-eqb (lands n i c j) w (l .1 v))))
 
 -- bits of two numbers under `&`
 bit-of-and : (k a b : ℕ) → bit k (bitAnd a b) ≡ min (bit k a) (bit k b)

@@ -7,10 +7,11 @@ use Rattle.notices.specs.Targets.{targetNames, targetOutside, targetBad,
 
 -- Whether a notice names the link of code c that leaves switch j at stage i of a fabric of n stages: where its target does.
 -- Links: `links-names` says it with equations.
--- Switch: `switch-names-inputs` says that the links named are 01's three, `switch-names-before` that none is of another stage, and
--- `column-0-names-none` that column 0 has none.
+-- Switch: `column-0-names-outputs` says which links column 0 names, `column-0-as-links` that a links notice can name them too, and
+-- `other-columns-as-before` that every other column names what 01 says: its three input links, `switch-names-inputs`, and none of another stage,
+-- `switch-names-before`. There is no second meaning: `switch-names-once`.
 -- Pattern: `pattern-names-exactly` says it bit by bit.
--- All five are in proofs/Named.
+-- All are in proofs/Named.
 abbrev pub names : ℕ → Notice → ℕ → ℕ → ℕ → Bool
 names n x i j c = targetNames n (x .target) i j c
 

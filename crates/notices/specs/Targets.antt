@@ -1,7 +1,7 @@
--- Document 01, 'Notices' and 'Numbers handed back': which links each of the three targets names, and what 4, 5 and 6 say of each. What holds of a
--- notice is in Notices.antt, with the theorems that pin both.
+-- Document 01, 'Notices' and 'Numbers handed back', and document 02, §3: which links each of the three targets names, and what 4, 5 and 6 say of
+-- each. What holds of a notice is in Notices.antt, with the theorems that pin both.
 use mathlib.Core.Path.{_≡_}
-use mathlib.Core.Bool.{Bool, false, not, _&&_, _||_}
+use mathlib.Core.Bool.{Bool, false, cond, not, _&&_, _||_}
 use mathlib.Core.Logic.{_⊎_}
 use Prim.Native.Nat.{ℕ, _+_}
 use lib.Dec.{eqb}
@@ -26,11 +26,12 @@ Input n i w j c = ((c ≡ 0) × (j ≡ w)) ⊎ (((c ≡ 1) × (j ≡ lands n i 2
 
 -- Whether a target names the link of code c that leaves switch j at stage i of a fabric of n stages.
 -- Links: "stage 0 to n-1, switch, and a set".
--- Switch: "It stops the switch's input links", those that land on it from the stage before its column.
+-- Switch: "It stops the switch's input links", those that land on it from the stage before its column; "in column 0" it "stops the three output
+-- links of that switch at stage 0".
 -- Pattern: "It names every switch whose bits under the mask equal the value."
 abbrev pub targetNames : ℕ → Target → ℕ → ℕ → ℕ → Bool
 targetNames n (Links stage switch set) i j c = eqb i stage && eqb j switch && setHas set c
-targetNames n (Switch column switch) i j c = eqb (i + 1) column && eqb (lands n i c j) switch
+targetNames n (Switch column switch) i j c = cond (eqb column 0) (eqb i 0 && eqb j switch) (eqb (i + 1) column && eqb (lands n i c j) switch)
 targetNames n (Pattern stage value mask set) i j c = eqb i stage && eqb (bitAnd j mask) value && setHas set c
 
 -- 4: "stage, column or switch outside the fabric (a pattern's value is judged by 5 alone)"

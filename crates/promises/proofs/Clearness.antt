@@ -27,7 +27,7 @@ module _ (n : ℕ) (legal : outsideSizes n ≡ false) (changes : List Change) wh
   good = good-run n changes (opened n) (rw (opened-is n legal) (opened-good n))
 
   -- the book's rule is that of its size
-  rule : (i j c : ℕ) → stopsOf end i j c ≡ stopper n (standing end) i j c
+  pub rule : (i j c : ℕ) → stopsOf end i j c ≡ stopper n (standing end) i j c
   rule i j c = ap (λ (m : ℕ). stopper m (standing end) i j c) (ap (λ (b : Book). b .n) (good .whole))
 
   pub clear-since : (s : ℕ) (cs : List ℕ) → Clear n (stopsOf end) s cs ↔ UnnamedSince n changes s cs

@@ -65,7 +65,7 @@ module _ (n : ℕ) (legal : outsideSizes n ≡ false) (changes : List Change) wh
   abbrev ran : Book
   ran = run changes (opened n)
 
-  same-size : ran .n ≡ n
+  pub same-size : ran .n ≡ n
   same-size = ap (λ (b : Book). b .n) (good n legal changes .whole)
 
   filed : Filed (unfit (ran .n)) 0 (standing ran)

@@ -1,3 +1,4 @@
 pub mod Examples
 pub mod Clearness
+pub mod DeadCards
 pub mod Controllers

@@ -18,6 +18,7 @@ fn main() {
     both_arms();
     not_reached();
     last_stage();
+    dead_card();
 }
 
 // A notice for links of one switch.
@@ -25,6 +26,14 @@ fn links(number: u16, stage: u8, switch: u16, set: u8) -> Notice {
     Notice {
         number,
         target: Target::Links { stage, switch, set },
+    }
+}
+
+// A notice for a switch.
+fn switch(number: u16, column: u8, switch: u16) -> Notice {
+    Notice {
+        number,
+        target: Target::Switch { column, switch },
     }
 }
 
@@ -127,6 +136,28 @@ fn not_reached() {
 fn last_stage() {
     let plus = with(empty(1), links(65535, 0, 0, 2));
     route(0, with(plus, links(65534, 0, 0, 4)), 0, 1);
+}
+
+// Document 02, §3: no route leaves a dead card of column 0, whatever the destination, and no walk does; its neighbour's do, and routes to the same label.
+fn dead_card() {
+    let dead = with(empty(3), switch(6, 0, 5));
+    route(0, dead, 5, 5);
+    route(0, dead, 5, 2);
+    walk(dead, 5, 5);
+    walk(dead, 5, 2);
+    route(0, dead, 4, 5);
+    route(0, dead, 6, 5);
+    let beside = with(dead, links(3, 0, 5, 1));
+    route(0, beside, 5, 5);
+    route(0, beside, 5, 2);
+    label_of_a_dead_card();
+}
+
+// Where its label is reached at a later stage the card's notice stops nothing, and neither does one of an earlier column.
+fn label_of_a_dead_card() {
+    let cards = with(with(empty(3), switch(1, 0, 4)), switch(2, 1, 0));
+    let straight = with(cards, links(9, 1, 4, 1));
+    route(0, with(straight, links(8, 1, 6, 6)), 5, 4);
 }
 
 fn route(example: u64, book: Book, source: u16, destination: u16) {

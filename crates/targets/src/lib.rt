@@ -1,10 +1,11 @@
-// Document 01, 'Notices': which links a notice names, and the checks 4, 5 and 6 of a notice.
+// Document 01, 'Notices', and document 02, §3: which links a notice names, and the checks 4, 5 and 6 of a notice.
 use notices::Notice;
 use notices::Target;
 ghost use mathlib.Core.Path.{_≡_};
 ghost use Prim.Native.Nat.{_≤_, _<_};
 ghost use Rattle.fabric.specs.Labels.{size};
-ghost use Rattle.notices.specs.Targets.{setHas, badSet};
+ghost use Rattle.notices.specs.declared.Target.the-variants.{Switch};
+ghost use Rattle.notices.specs.Targets.{setHas, badSet, targetNames};
 ghost use Rattle.notices.specs.Notices.{names, outsideFabric, badField, tooWide, unfit};
 
 // Whether a set has the link of a code.
@@ -27,10 +28,7 @@ pub fn names(n: u8, x: Notice, stage: u8, switch: u16, code: u8) -> bool
             switch: w,
             set,
         } => table::both(table::both(stage == s, switch == w), set_has(set, code)),
-        Target::Switch { column, switch: w } => table::both(
-            stage + 1 == column,
-            fabric::landing(n, stage, code, switch) == w,
-        ),
+        Target::Switch { column, switch: w } => names_of_switch(n, column, w, stage, switch, code),
         Target::Pattern {
             stage: s,
             value,
@@ -41,6 +39,20 @@ pub fn names(n: u8, x: Notice, stage: u8, switch: u16, code: u8) -> bool
             set_has(set, code),
         ),
     }
+}
+
+// Whether a switch notice does, of switch w: in column 0 it names the links that leave w, elsewhere those that land on it.
+fn names_of_switch(n: u8, column: u8, w: u16, stage: u8, switch: u16, code: u8) -> bool
+    requires { ⌜ (n ≤ 12) × (stage < n) × (switch < size n) × (code < 3) ⌝ }
+    ensures { λ r. ⌜ r ≡ targetNames n (Switch column w) stage switch code ⌝ }
+{
+    if column == 0 {
+        return table::both(stage == 0, switch == w);
+    }
+    table::both(
+        stage + 1 == column,
+        fabric::landing(n, stage, code, switch) == w,
+    )
 }
 
 // 4

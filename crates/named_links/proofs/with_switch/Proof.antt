@@ -1,15 +1,18 @@
--- The links that land on the switch are of the stage before its column, and none of them is on a way where the switch is none of its
--- column's two.
+-- In column 0 these are links of the switch itself. In any other column they land on it from the stage before, and none of them is on a way where the
+-- switch is none of its column's two.
 use mathlib.Core.Path.{sym, _∙_}
 use borrow.Author.Needs.{needs}
-use Rattle.named_links.proofs.Naming.{column-0-none, switch-more, switch-none}
+use Rattle.named_links.proofs.Naming.{column-0-more, switch-more, switch-none}
 use Rattle.named_links.proofs.with_switch.Statement.{statement}
 use Rattle.named_links.proofs.with_switch.Tie as tie
 
+with-links-requires : tie.Need-with-links-requires
+with-links-requires c κs = search needs
+
 returns : tie.Need-returns
 returns c =
-    let a = c .before .args in
-    column-0-none (a .n) _ _ (a .column) (a .switch) (a .stops) (c .if1 .taken)
+    let a = c .before .before .args in
+    column-0-more (a .n) _ _ (a .column) (a .switch) (a .stops) (c .before .if1 .taken) _ (c .with-links .ensures (a .n))
 
 mul-straight : tie.Need-mul-straight
 mul-straight c = search needs
@@ -49,6 +52,7 @@ pub with-switch-spec : {M : Type 1} → statement M
 with-switch-spec =
     tie.close
     (tie.spec
+    with-links-requires
     returns
     mul-straight
     element-copy-out-straight

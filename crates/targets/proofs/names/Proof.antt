@@ -18,35 +18,29 @@ both-requires-2 c κs = search needs
 enum-known-t-2 : tie.Need-enum-known-t-2
 enum-known-t-2 c = search needs
 
-add-both : tie.Need-add-both
-add-both c = search needs
-
-landing-requires : tie.Need-landing-requires
-landing-requires c κs = search needs
-
-both-requires-3 : tie.Need-both-requires-3
-both-requires-3 c κs = search needs
+names-of-switch-requires : tie.Need-names-of-switch-requires
+names-of-switch-requires c κs = search needs
 
 enum-known-t-3 : tie.Need-enum-known-t-3
 enum-known-t-3 c = search needs
 
-both-requires-4 : tie.Need-both-requires-4
-both-requires-4 c κs = search needs
+both-requires-3 : tie.Need-both-requires-3
+both-requires-3 c κs = search needs
 
 set-has-requires-2 : tie.Need-set-has-requires-2
 set-has-requires-2 c κs = search needs
 
-both-requires-5 : tie.Need-both-requires-5
-both-requires-5 c κs = search needs
+both-requires-4 : tie.Need-both-requires-4
+both-requires-4 c κs = search needs
 
 returns : tie.Need-returns
 returns c = rw (c .both2 .ensures, c .before .set-has .ensures, c .before .before .both .ensures, c .before .before .before .before .t .given .1)
 
 returns-2 : tie.Need-returns-2
-returns-2 c = rw (c .both3 .ensures, c .before .landing .ensures .0, c .before .before .before .t2 .given .1)
+returns-2 c = rw (c .names-of-switch .ensures, c .before .before .t2 .given .1)
 
 returns-3 : tie.Need-returns-3
-returns-3 c = rw (c .both5 .ensures, c .before .set-has2 .ensures, c .before .before .both4 .ensures, c .before .before .before .before .t3 .given .1)
+returns-3 c = rw (c .both4 .ensures, c .before .set-has2 .ensures, c .before .before .both3 .ensures, c .before .before .before .before .t3 .given .1)
 
 pub names-spec : {M : Type 1} → statement M
 names-spec =
@@ -57,13 +51,11 @@ names-spec =
     set-has-requires
     both-requires-2
     enum-known-t-2
-    add-both
-    landing-requires
-    both-requires-3
+    names-of-switch-requires
     enum-known-t-3
-    both-requires-4
+    both-requires-3
     set-has-requires-2
-    both-requires-5
+    both-requires-4
     returns
     returns-2
     returns-3)

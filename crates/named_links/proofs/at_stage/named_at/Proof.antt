@@ -1,11 +1,8 @@
--- By the kinds of targets: a set of the switches that meet a test, or of the links that lead to one.
+-- By the kinds of targets: a set of the switches that meet a test, or what a switch notice names.
 use lib.Dec.{eqb}
 use lib.Bits.{bitAnd}
-use Prim.Native.Nat.{_+_}
-use Rattle.fabric.specs.Links.{lands}
-use Rattle.named_links.specs.Named.{ofTwo}
-use Rattle.named_links.proofs.AtStage.{part-where, tested-where}
 use borrow.Author.Needs.{needs}
+use Rattle.named_links.proofs.AtStage.{tested-where}
 use Rattle.named_links.proofs.at_stage.named_at.Statement.{statement}
 use Rattle.named_links.proofs.at_stage.named_at.Tie as tie
 
@@ -21,14 +18,8 @@ part-requires c κs = search needs
 enum-known-t-2 : tie.Need-enum-known-t-2
 enum-known-t-2 c = search needs
 
-inputs-requires : tie.Need-inputs-requires
-inputs-requires c κs = search needs
-
-add-part : tie.Need-add-part
-add-part c = search needs
-
-part-requires-2 : tie.Need-part-requires-2
-part-requires-2 c κs = search needs
+of-switch-requires : tie.Need-of-switch-requires
+of-switch-requires c κs = search needs
 
 enum-known-t-3 : tie.Need-enum-known-t-3
 enum-known-t-3 c = search needs
@@ -36,8 +27,8 @@ enum-known-t-3 c = search needs
 meant-requires-2 : tie.Need-meant-requires-2
 meant-requires-2 c κs = search needs
 
-part-requires-3 : tie.Need-part-requires-3
-part-requires-3 c κs = search needs
+part-requires-2 : tie.Need-part-requires-2
+part-requires-2 c κs = search needs
 
 returns : tie.Need-returns
 returns c =
@@ -46,16 +37,13 @@ returns c =
     rw (c .before .before .before .t .given .1) (tested-where (a .straight) (a .fork) (eqb (a .i) (g .0)) (λ j. eqb j (g .1 .0)) (g .1 .1 .0) _ _ (c .before .meant .ensures) (c .part .ensures))
 
 returns-2 : tie.Need-returns-2
-returns-2 c =
-    let a = c .before .before .before .before .before .args in
-    let g = c .before .before .before .t2 .given .0 in
-    rw (c .before .before .before .t2 .given .1) (part-where (eqb (a .i + 1) (g .0)) (λ k. eqb (lands (a .n) (a .i) k (ofTwo (a .straight) (a .fork) k)) (g .1 .0)) _ _ (c .before .inputs .ensures) (c .part2 .ensures))
+returns-2 c = rw (c .before .before .t2 .given .1) (c .of-switch .ensures)
 
 returns-3 : tie.Need-returns-3
 returns-3 c =
     let a = c .before .before .before .before .before .args in
     let g = c .before .before .before .t3 .given .0 in
-    rw (c .before .before .before .t3 .given .1) (tested-where (a .straight) (a .fork) (eqb (a .i) (g .0)) (λ j. eqb (bitAnd j (g .1 .1 .0)) (g .1 .0)) (g .1 .1 .1 .0) _ _ (c .before .meant2 .ensures) (c .part3 .ensures))
+    rw (c .before .before .before .t3 .given .1) (tested-where (a .straight) (a .fork) (eqb (a .i) (g .0)) (λ j. eqb (bitAnd j (g .1 .1 .0)) (g .1 .0)) (g .1 .1 .1 .0) _ _ (c .before .meant2 .ensures) (c .part2 .ensures))
 
 pub named-at-spec : {M : Type 1} → statement M
 named-at-spec =
@@ -65,12 +53,10 @@ named-at-spec =
     meant-requires
     part-requires
     enum-known-t-2
-    inputs-requires
-    add-part
-    part-requires-2
+    of-switch-requires
     enum-known-t-3
     meant-requires-2
-    part-requires-3
+    part-requires-2
     returns
     returns-2
     returns-3)
