@@ -1,28 +1,18 @@
 //! Asks the proved router and the plain one the same million questions, sees that they agree, and prints both times. The proved one is asked as
 //! a host asks it: a sheet of 48 filings, and many pairs in one call. What one pair costs in a call of its own is printed beside it.
+mod blocks;
 #[path = "../include/tabashfar.rs"]
 mod face;
 #[allow(dead_code)]
 mod plain;
 mod questions;
 
+use blocks::{measured, timed, Side, BLOCKS, QUESTIONS, ROUNDS};
 use questions::{filings, Numbers, Pool, N};
 use std::hint::black_box;
-use std::time::Instant;
 
-const QUESTIONS: usize = 1_000_000;
-/// The questions are asked in blocks, each block by both routers in turn, and all of it several times over. A side's time is
-/// the sum of its best time for each block.
-const BLOCKS: usize = 100;
-const ROUNDS: usize = 9;
 /// So many of the questions are asked in calls of their own.
 const CALLS: usize = 2_000;
-
-fn timed(work: impl FnOnce()) -> f64 {
-    let began = Instant::now();
-    work();
-    began.elapsed().as_secs_f64()
-}
 
 /// The proved router, over a sheet of filing actions.
 fn proved(sheet: &[u8], pairs: &[u16], answers: &mut [u64]) {
@@ -65,32 +55,19 @@ fn main() {
     }
     assert_eq!(face::listing(&sheet, &mut [0; 480]), Ok(48), "every notice stands");
 
-    let mut by_proof = vec![0; QUESTIONS];
-    let mut by_hand = vec![u64::MAX; QUESTIONS];
-    let mut best = [[f64::INFINITY; BLOCKS]; 2];
-    let size = QUESTIONS / BLOCKS;
-    for _ in 0..ROUNDS {
-        for k in 0..BLOCKS {
-            let asked = &pairs[2 * k * size..2 * (k + 1) * size];
-            let room = k * size..(k + 1) * size;
-            let took = timed(|| proved(black_box(&sheet), black_box(asked), &mut by_proof[room.clone()]));
-            best[0][k] = best[0][k].min(took);
-            let took = timed(|| plain(black_box(&sheet), black_box(asked), &mut by_hand[room]));
-            best[1][k] = best[1][k].min(took);
-        }
-    }
-    let best = best.map(|side| side.iter().sum::<f64>());
+    let sides: [Side<u16>; 2] = [proved, plain];
+    let [by_proof, by_hand] = measured(&sheet, &pairs, sides);
     let one = alone(&sheet, &pairs);
 
-    let (diverted, none) = kinds(&by_hand);
+    let (diverted, none) = kinds(&by_hand.answers);
     println!("questions {QUESTIONS} at n = {N}, 48 notices standing, {BLOCKS} blocks, best of {ROUNDS} for each block");
     println!("diverted {diverted}, no path {none}, straight through {}", QUESTIONS - diverted - none);
-    println!("proved {:.1} ms, {:.1} ns a route", best[0] * 1e3, best[0] * 1e9 / QUESTIONS as f64);
-    println!("plain {:.1} ms, {:.1} ns a route", best[1] * 1e3, best[1] * 1e9 / QUESTIONS as f64);
-    println!("ratio {:.2}", best[0] / best[1]);
-    println!("a host pays {:.1} ns for one of many in tabashfar_routes, {:.1} ns for one in a call of tabashfar_route", best[0] * 1e9 / QUESTIONS as f64, one * 1e9);
-    let differ = by_proof.iter().zip(&by_hand).filter(|(a, b)| a != b).count();
-    for ((pair, a), b) in pairs.chunks_exact(2).zip(&by_proof).zip(&by_hand).filter(|((_, a), b)| a != b).take(5) {
+    println!("proved {:.1} ms, {:.1} ns a route", by_proof.seconds * 1e3, by_proof.ns());
+    println!("plain {:.1} ms, {:.1} ns a route", by_hand.seconds * 1e3, by_hand.ns());
+    println!("ratio {:.2}", by_proof.seconds / by_hand.seconds);
+    println!("a host pays {:.1} ns for one of many in tabashfar_routes, {:.1} ns for one in a call of tabashfar_route", by_proof.ns(), one * 1e9);
+    let differ = by_proof.differ(&by_hand);
+    for ((pair, a), b) in pairs.chunks_exact(2).zip(&by_proof.answers).zip(&by_hand.answers).filter(|((_, a), b)| a != b).take(5) {
         println!("from {} to {}: proved {:?}, plain {:?}", pair[0], pair[1], face::answer(*a), face::answer(*b));
     }
     if differ == 0 {

@@ -1,31 +1,18 @@
 //! Asks the proved router and the plain one the same million questions, sees that they agree, and prints both times: over a book that is
 //! known to be sound, and with the book judged anew for each question.
+mod blocks;
 mod plain;
 mod questions;
 
+use blocks::{measured, Side, BLOCKS, QUESTIONS, ROUNDS};
 use questions::{filings, Numbers, Pool, N};
 use std::hint::black_box;
-use std::time::Instant;
 
 extern "C" {
     fn bench_standing(sheet: *const u8, sheet_len: usize) -> usize;
     fn bench_routes(sheet: *const u8, sheet_len: usize, pairs: *const u16, pairs_len: usize, answers: *mut u64, answers_len: usize) -> bool;
     fn bench_routed(sheet: *const u8, sheet_len: usize, pairs: *const u16, pairs_len: usize, answers: *mut u64, answers_len: usize) -> u64;
 }
-
-const QUESTIONS: usize = 1_000_000;
-/// The questions are asked in blocks, each block by both routers in turn, and all of it several times over. A side's time is
-/// the sum of its best time for each block.
-const BLOCKS: usize = 100;
-const ROUNDS: usize = 9;
-
-fn timed(work: impl FnOnce()) -> f64 {
-    let began = Instant::now();
-    work();
-    began.elapsed().as_secs_f64()
-}
-
-type Side = fn(&[u8], &[u16], &mut [u64]);
 
 /// The proved router, over a sheet of filing actions: `route`, which judges the book, and `routed`, which need not.
 fn proved_entry(sheet: &[u8], pairs: &[u16], answers: &mut [u64]) {
@@ -56,40 +43,27 @@ fn plain_path(sheet: &[u8], pairs: &[u16], answers: &mut [u64]) {
 }
 
 /// Asks both sides and answers whether they agree.
-fn compared(what: &str, sides: [Side; 2], sheet: &[u8], pairs: &[u16]) -> bool {
-    let mut answers = [vec![0u64; QUESTIONS], vec![u64::MAX; QUESTIONS]];
-    let mut best = [vec![f64::INFINITY; BLOCKS], vec![f64::INFINITY; BLOCKS]];
-    let size = QUESTIONS / BLOCKS;
-    for _ in 0..ROUNDS {
-        for k in 0..BLOCKS {
-            let asked = &pairs[2 * k * size..2 * (k + 1) * size];
-            for side in 0..2 {
-                let room = &mut answers[side][k * size..(k + 1) * size];
-                let took = timed(|| sides[side](black_box(sheet), black_box(asked), room));
-                best[side][k] = best[side][k].min(took);
-            }
-        }
-    }
-    let best: Vec<f64> = best.iter().map(|side| side.iter().sum()).collect();
-
+fn compared(what: &str, sides: [Side<u16>; 2], sheet: &[u8], pairs: &[u16]) -> bool {
+    let [proved, plain] = measured(sheet, pairs, sides);
     let mut diverted = 0;
     let mut none = 0;
-    let mut differ = 0;
-    for (pair, (a, b)) in pairs.chunks_exact(2).zip(answers[0].iter().zip(&answers[1])) {
-        differ += (a != b) as usize;
+    let mut shown = 0;
+    let differ = proved.differ(&plain);
+    for (pair, (a, b)) in pairs.chunks_exact(2).zip(proved.answers.iter().zip(&plain.answers)) {
         match b & 255 {
             0 => diverted += (b >> (8 + N) != 0) as usize,
             _ => none += 1,
         }
-        if a != b && differ <= 5 {
+        if a != b && shown < 5 {
+            shown += 1;
             println!("from {} to {}: proved {a:x}, plain {b:x}", pair[0], pair[1]);
         }
     }
     println!("{what}");
     println!("diverted {diverted}, no path {none}, straight through {}", QUESTIONS - diverted - none);
-    println!("proved {:.1} ms, {:.1} ns a route", best[0] * 1e3, best[0] * 1e9 / QUESTIONS as f64);
-    println!("plain {:.1} ms, {:.1} ns a route", best[1] * 1e3, best[1] * 1e9 / QUESTIONS as f64);
-    println!("ratio {:.2}", best[0] / best[1]);
+    println!("proved {:.1} ms, {:.1} ns a route", proved.seconds * 1e3, proved.ns());
+    println!("plain {:.1} ms, {:.1} ns a route", plain.seconds * 1e3, plain.ns());
+    println!("ratio {:.2}", proved.seconds / plain.seconds);
     if differ == 0 {
         println!("agree");
     } else {

@@ -24,7 +24,7 @@ fn entries(why: &[u8], book: Book) {
 }
 
 // A book of size 3 in which the three notices lie in this order.
-fn holding(a: Notice, b: Notice, c: Notice) -> Book {
+pub fn holding(a: Notice, b: Notice, c: Notice) -> Book {
     let kept = Book::open(3);
     let mut book = kept.book;
     book.notices[0] = a;

@@ -8,7 +8,7 @@ use show::number;
 use show::word;
 
 // Files 48 notices, the highest number first.
-fn filled(empty: Book) -> Book {
+pub fn filled(empty: Book) -> Book {
     let mut book = empty;
     let mut left: u16 = 48;
     while 0 < left {

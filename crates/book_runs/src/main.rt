@@ -15,6 +15,7 @@ use written::Written;
 mod full; // full.rt: 48 filings and the 49th
 mod refusals; // refusals.rt: each number of the table
 mod damaged; // damaged.rt: books that no entry hands back
+mod pass; // pass.rt: every place in one pass
 mod lists; // lists.rt: the listing's bytes
 mod sheets; // sheets.rt: a book's sheet
 
@@ -27,6 +28,7 @@ fn main() {
     full::run();
     refusals::run();
     damaged::run();
+    pass::run();
     lists::run();
     sheets::run();
 }

@@ -57,7 +57,7 @@ fn misfiled(n: u8, notices: [Notice; 48], count: usize) -> bool
 }
 
 // Whether a place after the first `count` holds anything but the filler.
-fn littered(notices: [Notice; 48], count: usize) -> bool
+pub fn littered(notices: [Notice; 48], count: usize) -> bool
     requires { ⌜ count ≤ 48 ⌝ }
     ensures { λ r. ⌜ r ≡ littered (drop count notices) ⌝ }
 {

@@ -1,7 +1,7 @@
 -- Reading an array of which the first `count` places are in use, in order.
 use mathlib.Core.Path.{_≡_, sym, ap, _∙_}
 use mathlib.Core.List.{List, [], _∷_, map}
-use Prim.Native.Nat.{ℕ, _+_, _≤_, _<_}
+use Prim.Native.Nat.{ℕ, _+_, _-_, _≤_, _<_}
 use native.Mathlib.Numerals.{add-one}
 use native.Mathlib.Omega.{arith}
 use lib.ListN.{length, length-map, take, drop, getD}
@@ -21,6 +21,12 @@ module _ {A : Type 0} where
   next-of count l d i fits h =
       let e : length (take count l) ≡ count = length-take-le count l fits in
       next (take count l) d i (omega arith) ∙ ap (λ (x : A). x ∷ drop (i + 1) (take count l)) (getD-take count l i d h)
+
+  -- and from the end on: what lies from the place before i on
+  pub before-of : (count : ℕ) (l : List A) (d : A) (i : ℕ) → count ≤ length l → 0 < i → i ≤ count → drop (i - 1) (take count l) ≡ getD l (i - 1) d ∷ drop i (take count l)
+  before-of count l d i fits some h =
+      let e : i - 1 + 1 ≡ i = omega arith in
+      next-of count l d (i - 1) fits (omega arith) ∙ ap (λ (m : ℕ). getD l (i - 1) d ∷ drop m (take count l)) e
 
   pub none-left : (l : List A) (i : ℕ) → i ≡ length l → drop i l ≡ []
   none-left l i e = ap (λ (m : ℕ). drop m l) e ∙ drop-length l

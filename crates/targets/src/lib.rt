@@ -2,8 +2,8 @@
 use notices::Notice;
 use notices::Target;
 ghost use mathlib.Core.Path.{_≡_};
-ghost use Prim.Native.Nat.{_≤_, _<_};
-ghost use Rattle.fabric.specs.Labels.{size};
+ghost use Prim.Native.Nat.{ℕ, _≤_, _<_};
+ghost use Rattle.fabric.specs.Links.{lands};
 ghost use Rattle.notices.specs.declared.Target.the-variants.{Switch};
 ghost use Rattle.notices.specs.Targets.{setHas, badSet, targetNames};
 ghost use Rattle.notices.specs.Notices.{names, outsideFabric, badField, tooWide, unfit};
@@ -16,10 +16,10 @@ fn set_has(set: u8, code: u8) -> bool
     (set >> code) % 2 == 1
 }
 
-// Whether a notice names the link of a code that leaves a switch at a stage.
-pub fn names(n: u8, x: Notice, stage: u8, switch: u16, code: u8) -> bool
-    requires { ⌜ (n ≤ 12) × (stage < n) × (switch < size n) × (code < 3) ⌝ }
-    ensures { λ r. ⌜ r ≡ names n x stage switch code ⌝ }
+// Whether a notice names the link of a code that leaves a switch at a stage and lands on `end`.
+pub fn names(x: Notice, stage: u8, switch: u16, code: u8, end: u16) -> bool
+    requires { ⌜ (stage < 12) × (code < 3) ⌝ }
+    ensures { λ r. ⌜ ((n : ℕ) → end ≡ lands n stage code switch → r ≡ names n x stage switch code) ⌝ }
 {
     let t = x.target;
     match t {
@@ -28,7 +28,7 @@ pub fn names(n: u8, x: Notice, stage: u8, switch: u16, code: u8) -> bool
             switch: w,
             set,
         } => table::both(table::both(stage == s, switch == w), set_has(set, code)),
-        Target::Switch { column, switch: w } => names_of_switch(n, column, w, stage, switch, code),
+        Target::Switch { column, switch: w } => names_of_switch(column, w, stage, switch, end),
         Target::Pattern {
             stage: s,
             value,
@@ -42,17 +42,14 @@ pub fn names(n: u8, x: Notice, stage: u8, switch: u16, code: u8) -> bool
 }
 
 // Whether a switch notice does, of switch w: in column 0 it names the links that leave w, elsewhere those that land on it.
-fn names_of_switch(n: u8, column: u8, w: u16, stage: u8, switch: u16, code: u8) -> bool
-    requires { ⌜ (n ≤ 12) × (stage < n) × (switch < size n) × (code < 3) ⌝ }
-    ensures { λ r. ⌜ r ≡ targetNames n (Switch column w) stage switch code ⌝ }
+fn names_of_switch(column: u8, w: u16, stage: u8, switch: u16, end: u16) -> bool
+    requires { ⌜ stage < 12 ⌝ }
+    ensures { λ r. ⌜ ((n c : ℕ) → end ≡ lands n stage c switch → r ≡ targetNames n (Switch column w) stage switch c) ⌝ }
 {
     if column == 0 {
         return table::both(stage == 0, switch == w);
     }
-    table::both(
-        stage + 1 == column,
-        fabric::landing(n, stage, code, switch) == w,
-    )
+    table::both(stage + 1 == column, end == w)
 }
 
 // 4

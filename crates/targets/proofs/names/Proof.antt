@@ -34,13 +34,13 @@ both-requires-4 : tie.Need-both-requires-4
 both-requires-4 c κs = search needs
 
 returns : tie.Need-returns
-returns c = rw (c .both2 .ensures, c .before .set-has .ensures, c .before .before .both .ensures, c .before .before .before .before .t .given .1)
+returns c = λ n lands. rw (c .both2 .ensures, c .before .set-has .ensures, c .before .before .both .ensures, c .before .before .before .before .t .given .1)
 
 returns-2 : tie.Need-returns-2
-returns-2 c = rw (c .names-of-switch .ensures, c .before .before .t2 .given .1)
+returns-2 c = λ n lands. rw (c .before .before .t2 .given .1) (c .names-of-switch .ensures n (c .before .before .before .before .args .code) lands)
 
 returns-3 : tie.Need-returns-3
-returns-3 c = rw (c .both4 .ensures, c .before .set-has2 .ensures, c .before .before .both3 .ensures, c .before .before .before .before .t3 .given .1)
+returns-3 c = λ n lands. rw (c .both4 .ensures, c .before .set-has2 .ensures, c .before .before .both3 .ensures, c .before .before .before .before .t3 .given .1)
 
 pub names-spec : {M : Type 1} → statement M
 names-spec =

@@ -9,20 +9,17 @@ both-requires : tie.Need-both-requires
 both-requires c κs = search needs
 
 returns : tie.Need-returns
-returns c = rw (eq-eqb _ 0 (c .before .if1 .taken)) (c .both .ensures)
+returns c = λ n k lands. rw (eq-eqb _ 0 (c .before .if1 .taken)) (c .both .ensures)
 
 add-both : tie.Need-add-both
 add-both c = search needs
-
-landing-requires : tie.Need-landing-requires
-landing-requires c κs = search needs
 
 both-requires-2 : tie.Need-both-requires-2
 both-requires-2 c κs = search needs
 
 returns-2 : tie.Need-returns-2
-returns-2 c = rw (ne-eqb _ 0 (c .before .before .if1 .left)) (rw (sym (c .before .landing .ensures .0)) (c .both2 .ensures))
+returns-2 c = λ n k lands. rw (ne-eqb _ 0 (c .before .if1 .left), sym lands) (c .both2 .ensures)
 
 pub names-of-switch-spec : {M : Type 1} → statement M
 names-of-switch-spec =
-    tie.close (tie.spec both-requires returns add-both landing-requires both-requires-2 returns-2)
+    tie.close (tie.spec both-requires returns add-both both-requires-2 returns-2)

@@ -1,0 +1,4 @@
+pub mod Inside
+pub mod Lower
+pub mod Judging
+pub mod Testing
