@@ -23,8 +23,9 @@ pub fn lower(found: u16, number: u16) -> u16
     found
 }
 
-// The link test where there is such a link. 16 is judged on the way: each number is below the one after it, the first one above 0, and each notice such as
-// filing accepts. The places that are not in use come last. Where all are in use nothing is left to judge, and no array is copied for it.
+// The link test where there is such a link. 16 is judged on the way: each number is below that of the notice after it (`above`, at first more than any number),
+// the first one above 0, and each notice is such as filing accepts. The places that are not in use come last. Where all are in use nothing is left to judge, and
+// no array is copied for it.
 pub fn in_one_pass(book: Book, stage: u8, switch: u16, code: u8) -> Link
     requires { ⌜ (1 ≤ book .n) × (book .n ≤ 12) × (stage < book .n) × (switch < size (book .n)) × (code < 3) ⌝ }
     ensures { λ r. ⌜ Tests book stage switch code r ⌝ }
