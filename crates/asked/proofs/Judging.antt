@@ -90,12 +90,17 @@ module _ (bad : Notice → Bool) where
 
     -- where those after it are judged, it is filed before them, or the notices are misfiled
     module _ (above : ℕ) (small : x .number < 65536) (judged : Judged above after) where
-      pub judged-after : x .number < above → Filed bad (x .number) after
-      judged-after h = filed-if bad (x .number) after (judged (x .number) small ∙ lt-leb above (x .number) h)
-
-      pub judged-more : x .number < above → bad x ≡ false → Judged (x .number) (drop (i - 1) (take count l))
+      judged-more : x .number < above → bad x ≡ false → Judged (x .number) (drop (i - 1) (take count l))
       unfolding misfiled
       judged-more h fit k _ = ap (misfiled bad k) from-it ∙ rw (fit, judged (x .number) small, lt-leb above (x .number) h) (or-nothing (k notBelow x .number))
+
+      -- and what is held with it is the lowest number that a test picks from there on
+      pub pass-more : x .number < above → bad x ≡ false → (test : Notice → Bool) (found r : ℕ) → found ≡ lowest test after → Held (test x) found (x .number) r
+          → Judged (x .number) (drop (i - 1) (take count l)) × (r ≡ lowest test (drop (i - 1) (take count l)))
+      pass-more h fit test found r e w = (
+        judged-more h fit,
+        held-more (filed-if bad (x .number) after (judged (x .number) small ∙ lt-leb above (x .number) h)) test found r e w,
+      )
 
       pub high-misfiled : above ≤ x .number → misfiled bad 0 (take count l) ≡ true
       unfolding misfiled

@@ -11,7 +11,7 @@ use Rattle.standing.specs.Rising.{filler}
 use Rattle.book.specs.Standing.{stopper}
 use Rattle.standing.proofs.Reading.{length-mapped}
 use Rattle.asked.proofs.Lower.{held-named, held-unnamed}
-use Rattle.asked.proofs.Judging.{none-yet, Judged, judged-end, judged-all, judged-after, judged-more, high-misfiled, bad-misfiled, held-more}
+use Rattle.asked.proofs.Judging.{none-yet, Judged, judged-end, judged-all, pass-more, high-misfiled, bad-misfiled}
 use Rattle.asked.proofs.Testing.{refused-by-count, refused-by-order, refused-by-litter, all-in-use, passed-tests}
 use Rattle.asked.proofs.pass.in_one_pass.Statement.{statement}
 use Rattle.asked.proofs.pass.in_one_pass.Tie as tie
@@ -95,14 +95,10 @@ loop-again c =
     let falls : x .number < v .above = omega arith in
     let fit = sym (c .before .before .before .before .before .unfit .ensures) ∙ c .before .before .before .before .if3 .left in
     let small : x .number < 65536 = search needs in
-    let filed = judged-after (unfit (b .n)) (b .count) (b .notices) (v .left) (v .inv .1) some (v .inv .0) (v .above) small (v .inv .2) falls in
-    let named = sym (c .before .before .names .ensures (b .n) (c .before .before .before .before .before .before .before .before .before .before .before .before .landing .ensures .0)) in (
-      omega arith,
-      v .inv .1,
-      judged-more (unfit (b .n)) (b .count) (b .notices) (v .left) (v .inv .1) some (v .inv .0) (v .above) small (v .inv .2) falls fit,
-      held-more (unfit (b .n)) (b .count) (b .notices) (v .left) (v .inv .1) some (v .inv .0) filed (λ y. names (b .n) y (a .stage) (a .switch) (a .code)) (v .lowest) (c .lower .result) (v .inv .3)
-          (held-named (named ∙ c .before .if4 .taken) (c .lower .ensures)),
-    )
+    let named = sym (c .before .before .names .ensures (b .n) (c .before .before .before .before .before .before .before .before .before .before .before .before .landing .ensures .0)) in
+    let held = held-named (named ∙ c .before .if4 .taken) (c .lower .ensures) in
+    let more = pass-more (unfit (b .n)) (b .count) (b .notices) (v .left) (v .inv .1) some (v .inv .0) (v .above) small (v .inv .2) falls fit (λ y. names (b .n) y (a .stage) (a .switch) (a .code)) (v .lowest) (c .lower .result) (v .inv .3) held in
+    (omega arith, v .inv .1, more .0, more .1)
 
 loop-less-2 : tie.Need-loop-less-2 Inv-loop μ-loop
 loop-less-2 c = search needs
@@ -119,14 +115,10 @@ loop-again-2 c =
     let falls : x .number < v .above = omega arith in
     let fit = sym (c .before .before .before .before .unfit .ensures) ∙ c .before .before .before .if3 .left in
     let small : x .number < 65536 = search needs in
-    let filed = judged-after (unfit (b .n)) (b .count) (b .notices) (v .left) (v .inv .1) some (v .inv .0) (v .above) small (v .inv .2) falls in
-    let named = sym (c .before .names .ensures (b .n) (c .before .before .before .before .before .before .before .before .before .before .before .landing .ensures .0)) in (
-      omega arith,
-      v .inv .1,
-      judged-more (unfit (b .n)) (b .count) (b .notices) (v .left) (v .inv .1) some (v .inv .0) (v .above) small (v .inv .2) falls fit,
-      held-more (unfit (b .n)) (b .count) (b .notices) (v .left) (v .inv .1) some (v .inv .0) filed (λ y. names (b .n) y (a .stage) (a .switch) (a .code)) (v .lowest) (v .lowest) (v .inv .3)
-          (held-unnamed (named ∙ c .if4 .left)),
-    )
+    let named = sym (c .before .names .ensures (b .n) (c .before .before .before .before .before .before .before .before .before .before .before .landing .ensures .0)) in
+    let held = held-unnamed (named ∙ c .if4 .left) in
+    let more = pass-more (unfit (b .n)) (b .count) (b .notices) (v .left) (v .inv .1) some (v .inv .0) (v .above) small (v .inv .2) falls fit (λ y. names (b .n) y (a .stage) (a .switch) (a .code)) (v .lowest) (v .lowest) (v .inv .3) held in
+    (omega arith, v .inv .1, more .0, more .1)
 
 returns-4 : tie.Need-returns-4 Inv-loop μ-loop
 returns-4 c =
