@@ -2,7 +2,7 @@
 use routes::Found;
 use table::Answer;
 use words::bits;
-use words::number;
+use words::named_number;
 use words::number_told;
 use words::refusal_told;
 use words::word;
@@ -49,7 +49,6 @@ fn none_told(out: &mut [u8], at: usize, stage: u8, by: u16) -> usize
     requires { ⌜ at + 30 ≤ length (now out) ⌝ }
     ensures { λ r. ⌜ (Wrote (now (out .entry)) at (ending (noneTold stage by)) (now (out .exit)) r) × (r ≤ at + 30) ⌝ }
 {
-    let mid = word(out, at, b" NONE ");
-    let end = number(out, mid, stage as u16);
+    let end = named_number(out, at, b" NONE ", stage as u16);
     number_told(out, end, b" BY ", by)
 }

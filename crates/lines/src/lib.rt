@@ -5,7 +5,7 @@ use answers::found_told;
 use routes::Found;
 use table::Answer;
 use table::Refusal;
-use words::number;
+use words::named_number;
 use words::refusal_told;
 use words::word;
 ghost use Prim.Native.Nat.{_+_, _≤_};
@@ -34,10 +34,9 @@ pub fn withdraw_line(k: u16, answer: Answer, out: &mut [u8], at: usize) -> usize
 // "`FILE` or `WITHDRAW` is followed by the notice number and `OK`, or `REFUSED` and the table number."
 fn notice_line(name: &[u8], k: u16, answer: Answer, out: &mut [u8], at: usize) -> usize
     requires { ⌜ (length (now name) ≤ 9) × (at + actionRoom ≤ length (now out)) ⌝ }
-    ensures { λ r. ⌜ (Wrote (now (out .entry)) at (now (name .entry) ++ (decimal k ++ ending (told answer))) (now (out .exit)) r) × (r ≤ at + actionRoom) ⌝ }
+    ensures { λ r. ⌜ (Wrote (now (out .entry)) at (now (name .entry) ++ decimal k ++ ending (told answer)) (now (out .exit)) r) × (r ≤ at + actionRoom) ⌝ }
 {
-    let mid = word(out, at, name);
-    let end = number(out, mid, k);
+    let end = named_number(out, at, name, k);
     answer_told(out, end, answer)
 }
 
@@ -53,10 +52,8 @@ pub fn route_line(
     requires { ⌜ (n ≤ 12) × (at + actionRoom ≤ length (now out)) ⌝ }
     ensures { λ r. ⌜ (Wrote (now (out .entry)) at (routeLine n source destination answer) (now (out .exit)) r) × (r ≤ at + actionRoom) ⌝ }
 {
-    let from = word(out, at, b"ROUTE ");
-    let between = number(out, from, source);
-    let to = word(out, between, b" ");
-    let end = number(out, to, destination);
+    let between = named_number(out, at, b"ROUTE ", source);
+    let end = named_number(out, between, b" ", destination);
     found_told(n, out, end, answer)
 }
 

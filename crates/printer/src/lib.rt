@@ -10,7 +10,7 @@ use printed::FIRST_LINE_ROOM;
 use printed::Ran;
 use sheet::Header;
 use table::Refusal;
-use words::number;
+use words::named_number;
 use words::number_told;
 use words::refusal_told;
 use words::word;
@@ -59,8 +59,7 @@ fn sheet_line(n: u8, count: u16, out: &mut [u8]) -> usize
     requires { ⌜ firstLineRoom ≤ length (now out) ⌝ }
     ensures { λ r. ⌜ (Wrote (now (out .entry)) 0 (sheetLine n count) (now (out .exit)) r) × (r ≤ firstLineRoom) ⌝ }
 {
-    let first = word(out, 0, b"SHEET ");
-    let between = number(out, first, n as u16);
+    let between = named_number(out, 0, b"SHEET ", n as u16);
     number_told(out, between, b" ", count)
 }
 

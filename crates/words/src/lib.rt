@@ -18,7 +18,7 @@ pub fn word(out: &mut [u8], at: usize, text: &[u8]) -> usize
 }
 
 // A number in decimal, its last digit first.
-pub fn number(out: &mut [u8], at: usize, x: u16) -> usize
+fn number(out: &mut [u8], at: usize, x: u16) -> usize
     requires { ⌜ at + 5 ≤ length (now out) ⌝ }
     ensures { λ r. ⌜ (Wrote (now (out .entry)) at (decimal x) (now (out .exit)) r) × (r ≤ at + 5) ⌝ }
 {
@@ -63,13 +63,21 @@ pub fn bits(out: &mut [u8], at: usize, count: u8, x: u32) -> usize
     at + count as usize
 }
 
-// The end of a line: a word with its blanks, a number and LF.
-pub fn number_told(out: &mut [u8], at: usize, name: &[u8], x: u16) -> usize
-    requires { ⌜ at + length (now name) + 6 ≤ length (now out) ⌝ }
-    ensures { λ r. ⌜ (Wrote (now (out .entry)) at (now (name .entry) ++ (decimal x ++ ending [])) (now (out .exit)) r) × (r ≤ at + length (now (name .entry)) + 6) ⌝ }
+// A word with its blanks, and a number after it.
+pub fn named_number(out: &mut [u8], at: usize, name: &[u8], x: u16) -> usize
+    requires { ⌜ at + length (now name) + 5 ≤ length (now out) ⌝ }
+    ensures { λ r. ⌜ (Wrote (now (out .entry)) at (now (name .entry) ++ decimal x) (now (out .exit)) r) × (r ≤ at + length (now (name .entry)) + 5) ⌝ }
 {
     let mid = word(out, at, name);
-    let end = number(out, mid, x);
+    number(out, mid, x)
+}
+
+// The end of a line: such a word and number, and LF.
+pub fn number_told(out: &mut [u8], at: usize, name: &[u8], x: u16) -> usize
+    requires { ⌜ at + length (now name) + 6 ≤ length (now out) ⌝ }
+    ensures { λ r. ⌜ (Wrote (now (out .entry)) at (now (name .entry) ++ decimal x ++ ending []) (now (out .exit)) r) × (r ≤ at + length (now (name .entry)) + 6) ⌝ }
+{
+    let end = named_number(out, at, name, x);
     word(out, end, b"\n")
 }
 

@@ -1,18 +1,15 @@
--- A word, a number, and then a word, a number and LF, one after the other.
+-- The stage after its word, and the number after its own.
 use native.Mathlib.Omega.{arith}
 use borrow.Author.Needs.{needs}
 use Rattle.words.proofs.Writing.{wrote-more}
 use Rattle.answers.proofs.none_told.Statement.{statement}
 use Rattle.answers.proofs.none_told.Tie as tie
 
-slice-aggregate-word : tie.Need-slice-aggregate-word
-slice-aggregate-word c = search needs
+slice-aggregate-named-number : tie.Need-slice-aggregate-named-number
+slice-aggregate-named-number c = search needs
 
-word-requires : tie.Need-word-requires
-word-requires c κs = search needs
-
-number-requires : tie.Need-number-requires
-number-requires c κs = search needs
+named-number-requires : tie.Need-named-number-requires
+named-number-requires c κs = search needs
 
 slice-aggregate-number-told : tie.Need-slice-aggregate-number-told
 slice-aggregate-number-told c = search needs
@@ -25,23 +22,20 @@ same-length c = search needs
 
 returns : tie.Need-returns
 returns c =
-    let a = c .before .before .before .before .before .before .before .before .before .before .before .before .before .before .before .args in
-    let first = c .before .before .before .before .before .before .before .before .before .before .before .word in
-    let digits = c .before .before .before .before .before .before .before .number in
-    let end = c .before .before .number-told in
-    let ends = first .ensures .ends in
-    let kept = first .kept .0 in
-    let ends2 = digits .ensures .1 in
-    let ends3 = end .ensures .1 in
-    (wrote-more (a .out .now) (a .at) (omega arith) (first .ensures) (wrote-more (first .last .0) (first .result) (omega arith) (digits .ensures .0) (end .ensures .0)), omega arith)
+    let a = c .before .before .before .before .before .before .before .before .before .before .before .args in
+    let room = c .before .before .before .before .before .before .before .before .before .before .before .pre in
+    let stage = c .before .before .before .before .before .before .before .named-number in
+    let by = c .before .before .number-told in
+    let short = stage .ensures .1 in
+    let ends = by .ensures .1 in
+    (wrote-more (a .out .now) (a .at) (omega arith) (stage .ensures .0) (by .ensures .0), omega arith)
 
 pub none-told-spec : {M : Type 1} → statement M
 none-told-spec =
     tie.close
     (tie.spec
-    slice-aggregate-word
-    word-requires
-    number-requires
+    slice-aggregate-named-number
+    named-number-requires
     slice-aggregate-number-told
     number-told-requires
     same-length
