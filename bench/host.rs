@@ -1,5 +1,5 @@
-//! Asks the proved router and the plain one the same million questions, sees that they agree, and prints both times. The proved one is asked as
-//! a host asks it: a sheet of 48 filings, and many pairs in one call. What one pair costs in a call of its own is printed beside it.
+//! Asks the proved router and the plain one the same million questions, sees that they agree, and prints both times, for each choice. The proved
+//! one is asked as a host asks it: a sheet of 48 filings, and many pairs in one call. What one pair costs in a call of its own is printed beside it.
 mod blocks;
 #[path = "../include/tabashfar.rs"]
 mod face;
@@ -8,30 +8,30 @@ mod plain;
 mod questions;
 
 use blocks::{measured, timed, Side, BLOCKS, QUESTIONS, ROUNDS};
-use questions::{filings, Numbers, Pool, N};
+use questions::{filings, sheet, with_classes, Numbers, Pool, N};
 use std::hint::black_box;
 
 /// So many of the questions are asked in calls of their own.
 const CALLS: usize = 2_000;
 
 /// The proved router, over a sheet of filing actions.
-fn proved(sheet: &[u8], pairs: &[u16], answers: &mut [u64]) {
-    face::routes(sheet, pairs, answers).expect("there is an answer's room for each pair");
+fn proved<const CHOICE: u8>(sheet: &[u8], pairs: &[u16], answers: &mut [u64]) {
+    face::routes(sheet, CHOICE, pairs, answers).expect("there is an answer's room for each pair");
 }
 
-/// The plain router, over the ten-byte rows of the same sheet.
-fn plain(sheet: &[u8], pairs: &[u16], answers: &mut [u64]) {
-    let book = plain::book(N, &sheet[8..]);
+/// The plain router, over the same sheet. As the proved one it is compiled without knowing the choice.
+fn plain<const CHOICE: u8>(sheet: &[u8], pairs: &[u16], answers: &mut [u64]) {
+    let (book, choice) = (plain::book(sheet), black_box(CHOICE));
     for (pair, answer) in pairs.chunks_exact(2).zip(answers) {
-        *answer = plain::route(N, book.standing(), pair[0].into(), pair[1].into()).packed();
+        *answer = plain::route(N, book.standing(), choice, pair[0].into(), pair[1].into()).packed();
     }
 }
 
 /// The best time of one route in a call of its own, which makes the book for it.
-fn alone(sheet: &[u8], pairs: &[u16]) -> f64 {
+fn alone(sheet: &[u8], choice: u8, pairs: &[u16]) -> f64 {
     let calls = || {
         for pair in pairs[..2 * CALLS].chunks_exact(2) {
-            let _ = black_box(face::route(black_box(sheet), pair[0], pair[1]));
+            let _ = black_box(face::route(black_box(sheet), pair[0], pair[1], choice));
         }
     };
     (0..ROUNDS).map(|_| timed(calls)).fold(f64::INFINITY, f64::min) / CALLS as f64
@@ -43,24 +43,14 @@ fn kinds(answers: &[u64]) -> (usize, usize) {
     (answers.iter().filter(|&a| a & 255 == 0 && a >> (8 + N) != 0).count(), none)
 }
 
-fn main() {
-    let mut numbers = Numbers::fixed();
-    let pool = Pool::new(&mut numbers);
-    let mut sheet = vec![b'F', b'S', b'H', 0, 1, N as u8, 0, 48];
-    sheet.extend(filings(&pool, &mut numbers));
-    let mut pairs = Vec::with_capacity(2 * QUESTIONS);
-    for _ in 0..QUESTIONS {
-        let (s, d) = pool.question(&mut numbers);
-        pairs.extend([s as u16, d as u16]);
-    }
-    assert_eq!(face::listing(&sheet, &mut [0; 480]), Ok(48), "every notice stands");
-
-    let sides: [Side<u16>; 2] = [proved, plain];
-    let [by_proof, by_hand] = measured(&sheet, &pairs, sides);
-    let one = alone(&sheet, &pairs);
+/// Asks both sides and answers whether they agree.
+fn compared<const CHOICE: u8>(sheet: &[u8], pairs: &[u16]) -> bool {
+    let sides: [Side<u16>; 2] = [proved::<CHOICE>, plain::<CHOICE>];
+    let [by_proof, by_hand] = measured(sheet, pairs, sides);
+    let one = alone(sheet, CHOICE, pairs);
 
     let (diverted, none) = kinds(&by_hand.answers);
-    println!("questions {QUESTIONS} at n = {N}, 48 notices standing, {BLOCKS} blocks, best of {ROUNDS} for each block");
+    println!("choice {CHOICE}:");
     println!("diverted {diverted}, no path {none}, straight through {}", QUESTIONS - diverted - none);
     println!("proved {:.1} ms, {:.1} ns a route", by_proof.seconds * 1e3, by_proof.ns());
     println!("plain {:.1} ms, {:.1} ns a route", by_hand.seconds * 1e3, by_hand.ns());
@@ -74,6 +64,25 @@ fn main() {
         println!("agree");
     } else {
         println!("{differ} answers differ");
+    }
+    differ == 0
+}
+
+fn main() {
+    let mut numbers = Numbers::fixed();
+    let pool = Pool::new(&mut numbers);
+    let rows = with_classes(&filings(&pool, &mut numbers));
+    let sheet = sheet(&rows);
+    let mut pairs = Vec::with_capacity(2 * QUESTIONS);
+    for _ in 0..QUESTIONS {
+        let (s, d) = pool.question(&mut numbers);
+        pairs.extend([s as u16, d as u16]);
+    }
+    assert_eq!(face::listing(&sheet, &mut [0; 11 * 48]), Ok(48), "every notice stands");
+
+    let busy = rows.iter().filter(|row| row[10] == 1).count();
+    println!("questions {QUESTIONS} at n = {N}, 48 notices standing, {busy} of them busy, {BLOCKS} blocks, best of {ROUNDS} for each block");
+    if !(compared::<0>(&sheet, &pairs) & compared::<1>(&sheet, &pairs)) {
         std::process::exit(1);
     }
 }

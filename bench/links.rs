@@ -8,7 +8,7 @@ mod questions;
 
 use blocks::{measured, Measured, Side, BLOCKS, QUESTIONS, ROUNDS};
 use plain::Target;
-use questions::{filings, Numbers, Pool, N};
+use questions::{filings, sheet, with_classes, Numbers, Pool, N};
 use std::hint::black_box;
 
 extern "C" {
@@ -26,18 +26,11 @@ fn proved<const FORM: u8>(sheet: &[u8], links: &[u32], answers: &mut [u64]) {
     assert!(taken, "there is an answer's room for each link");
 }
 
-/// The plain book of the same sheet.
-fn plain_book(sheet: &[u8]) -> plain_links::Book {
-    let book = plain::book(N, &sheet[8..]);
-    let notice = |k: usize| plain_links::Notice { number: book.numbers[k], target: book.targets[k] };
-    plain_links::Book { n: N as u8, count: book.count, notices: std::array::from_fn(notice) }
-}
-
 /// The plain link test over a book that each question is handed, by reference or as a copy of its own.
 fn plain<const COPIED: bool>(sheet: &[u8], links: &[u32], answers: &mut [u64]) {
-    let book = plain_book(sheet);
+    let book = plain::book(sheet);
     for (&link, answer) in links.iter().zip(answers) {
-        let asked = |book: &plain_links::Book| plain_links::link(book, (link >> 16) as u8, link as u16, (link >> 24) as u8);
+        let asked = |book: &plain::Book| plain_links::link(book, (link >> 16) as u8, link as u16, (link >> 24) as u8);
         let told = if COPIED { asked(black_box(&{ *black_box(&book) })) } else { asked(black_box(&book)) };
         *answer = match told {
             Ok(number) => u64::from(number) << 8,
@@ -47,11 +40,11 @@ fn plain<const COPIED: bool>(sheet: &[u8], links: &[u32], answers: &mut [u64]) {
 }
 
 /// A link as crates/bench_links takes it: every second one is drawn from all over the fabric, the others from where a notice speaks of.
-fn drawn(targets: &[Target], numbers: &mut Numbers) -> u32 {
+fn drawn(notices: &[plain::Notice], numbers: &mut Numbers) -> u32 {
     let (stage, switch) = if numbers.below(2) == 0 {
         (numbers.below(N), numbers.below(1 << N))
     } else {
-        match targets[numbers.below(targets.len() as u32) as usize] {
+        match notices[numbers.below(notices.len() as u32) as usize].target {
             Target::Links { stage, switch, .. } | Target::Pattern { stage, value: switch, .. } => (stage.into(), switch.into()),
             Target::Switch { column, switch } => (column.saturating_sub(1).into(), switch.into()),
         }
@@ -76,12 +69,12 @@ fn agree(what: &str, differ: usize) -> bool {
 fn main() {
     let mut numbers = Numbers::fixed();
     let pool = Pool::new(&mut numbers);
-    let mut sheet = vec![b'F', b'S', b'H', 0, 1, N as u8, 0, 48];
-    sheet.extend(filings(&pool, &mut numbers));
-    let targets = plain::book(N, &sheet[8..]).targets;
-    let links: Vec<u32> = (0..QUESTIONS).map(|_| drawn(&targets, &mut numbers)).collect();
+    let sheet = sheet(&with_classes(&filings(&pool, &mut numbers)));
+    let book = plain::book(&sheet);
+    let links: Vec<u32> = (0..QUESTIONS).map(|_| drawn(&book.notices, &mut numbers)).collect();
 
-    println!("links {QUESTIONS} at n = {N}, 48 notices standing, {BLOCKS} blocks, best of {ROUNDS} for each block");
+    let busy = book.notices.iter().filter(|x| x.class == 1).count();
+    println!("links {QUESTIONS} at n = {N}, 48 notices standing, {busy} of them busy, {BLOCKS} blocks, best of {ROUNDS} for each block");
     let sides: [Side<u32>; 4] = [proved::<ONE_PASS>, proved::<AS_IT_WAS>, plain::<false>, plain::<true>];
     let [now, before, by_hand, copied] = measured(&sheet, &links, sides);
     let stopped = by_hand.answers.iter().filter(|&&a| a != 0).count();

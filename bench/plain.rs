@@ -1,12 +1,14 @@
-//! A router in plain Rust, written for speed from documents 01 and 02 (§2, §3) alone and sharing nothing with the proved one. As the proved
+//! A router in plain Rust, written for speed from documents 01 and 02 (§2, §3, §5) alone and sharing nothing with the proved one. As the proved
 //! router does, it answers each question from the list of notices and keeps nothing between two questions. `route` tests no book, `judged`
-//! first tests the one that it is given, as 01's number 16 asks.
+//! tests the one that it is given, as 01's number 16 asks, in the same pass over its notices.
 //!
 //! The switches of column i that can lie on a path from s to d agree with d in their low i bits, and lie less than 2^i away
 //! from s on either side. There are two: the bit i of one is right, and it goes straight; the other one forks. So a notice is
 //! held against two labels, and most notices touch neither.
 //!
-//! Where no path is clear the notices are gone through once more, by rising number: the first that stops a way onward is named.
+//! Where no path is clear the notices are gone through once more, by rising number: the first counted one that stops a way onward is named.
+//!
+//! A question's choice is 0 where all notices count, and 1 where the broken ones do, those of class 0, alone.
 
 #[derive(Clone, Copy)]
 pub enum Target {
@@ -31,11 +33,19 @@ impl Answer {
     }
 }
 
-/// The notices that stand, by rising number.
+/// Of class 0, broken, or 1, busy.
 #[derive(Clone, Copy)]
-pub struct Standing<'a> {
-    pub numbers: &'a [u16],
-    pub targets: &'a [Target],
+pub struct Notice {
+    pub number: u16,
+    pub class: u8,
+    pub target: Target,
+}
+
+impl Notice {
+    #[inline(always)]
+    fn counts(&self, choice: u8) -> bool {
+        self.class & choice == 0
+    }
 }
 
 /// A walk is the states it has used, the first of them highest; of two walks the lesser comes first. From this number on it
@@ -104,26 +114,59 @@ impl Marks {
         }
     }
 
+    /// Marks what the notice stops, if it counts. None where it is judged, and filing refuses its target for itself.
     #[inline(always)]
-    fn new(notices: &[Target], columns: &Columns) -> Marks {
-        let mut marks = Marks { straight: 0, fork: 0 };
-        for x in notices {
-            match *x {
-                Target::Links { stage, switch, set } => {
-                    let i = stage as usize & 15;
-                    marks.add_one(i, set, columns.straight[i] == switch, columns.fork[i] == switch);
+    fn add_notice<const JUDGED: bool>(&mut self, n: u32, x: &Notice, counts: bool, columns: &Columns) -> Option<()> {
+        let outside = |switch: u16| switch as u32 >= 1 << n;
+        let bad_set = |set: u8| set.wrapping_sub(1) > 6;
+        match x.target {
+            Target::Links { stage, switch, set } => {
+                if JUDGED && (stage as u32 >= n || outside(switch) || bad_set(set)) {
+                    return None;
                 }
-                Target::Switch { column, switch } => {
-                    let i = column as usize & 15;
-                    marks.add_one(i, CLOSED, columns.straight[i] == switch, columns.fork[i] == switch);
+                let i = stage as usize & 15;
+                if counts {
+                    self.add_one(i, set, columns.straight[i] == switch, columns.fork[i] == switch);
                 }
-                Target::Pattern { stage, value, mask, set } => {
-                    let i = stage as usize & 15;
-                    marks.add(i, set, columns.straight[i] & mask == value, columns.fork[i] & mask == value);
+            }
+            Target::Switch { column, switch } => {
+                if JUDGED && (column as u32 > n || outside(switch)) {
+                    return None;
+                }
+                let i = column as usize & 15;
+                if counts {
+                    self.add_one(i, CLOSED, columns.straight[i] == switch, columns.fork[i] == switch);
+                }
+            }
+            Target::Pattern { stage, value, mask, set } => {
+                if JUDGED && (stage as u32 >= n || bad_set(set) || outside(mask) || value & mask != value || mask & mask.wrapping_sub(1) == 0) {
+                    return None;
+                }
+                let i = stage as usize & 15;
+                if counts {
+                    self.add(i, set, columns.straight[i] & mask == value, columns.fork[i] & mask == value);
                 }
             }
         }
-        marks
+        Some(())
+    }
+
+    /// Of the notices that count: with ALL every one of them, otherwise the broken ones. None where they are judged, and no filings make them.
+    #[inline(always)]
+    fn new<const JUDGED: bool, const ALL: bool>(n: u32, standing: &[Notice], columns: &Columns) -> Option<Marks> {
+        let mut marks = Marks { straight: 0, fork: 0 };
+        let mut last = 0;
+        for x in standing {
+            if JUDGED && (x.number <= last || x.class > 1) {
+                return None;
+            }
+            last = x.number;
+            let counts = ALL || x.class == 0;
+            if JUDGED || counts {
+                marks.add_notice::<JUDGED>(n, x, counts, columns)?;
+            }
+        }
+        Some(marks)
     }
 }
 
@@ -144,12 +187,15 @@ struct Walks {
 }
 
 impl Walks {
+    /// Those that begin. None where the notices are judged, and no filings make them.
     #[inline(always)]
-    fn new(n: u32, targets: &[Target], source: u32, destination: u32) -> Walks {
+    fn new<const JUDGED: bool>(n: u32, standing: &[Notice], choice: u8, source: u32, destination: u32) -> Option<Walks> {
         let distance = destination.wrapping_sub(source);
-        let marks = Marks::new(targets, &Columns::new(n, source as u16, distance as u16));
+        let columns = Columns::new(n, source as u16, distance as u16);
+        // where all notices count no class is looked at
+        let marks = if choice == 0 { Marks::new::<JUDGED, true> } else { Marks::new::<JUDGED, false> }(n, standing, &columns)?;
         let (straight, fork) = if distance & 1 == 0 { (0, LOST) } else { (LOST, 0) };
-        Walks { straight, fork, distance, digits: destination, right: marks.straight, wrong: marks.fork }
+        Some(Walks { straight, fork, distance, digits: destination, right: marks.straight, wrong: marks.fork })
     }
 
     /// Crosses a stage.
@@ -184,9 +230,14 @@ impl Walks {
     }
 }
 
-pub fn route(n: u32, standing: Standing, source: u32, destination: u32) -> Answer {
-    let mut walks = Walks::new(n, standing.targets, source, destination);
-    let begun = walks;
+pub fn route(n: u32, standing: &[Notice], choice: u8, source: u32, destination: u32) -> Answer {
+    crossed(n, standing, choice, Walks::new::<false>(n, standing, choice, source, destination).expect("nothing is judged"))
+}
+
+/// The walks are those that begin.
+#[inline(always)]
+fn crossed(n: u32, standing: &[Notice], choice: u8, begun: Walks) -> Answer {
+    let mut walks = begun;
     let mut crossed = 0;
     for _ in 0..n {
         walks.cross();
@@ -196,22 +247,23 @@ pub fn route(n: u32, standing: Standing, source: u32, destination: u32) -> Answe
         crossed = 0;
     }
     if crossed < n {
-        return none(n, standing, source, begun, crossed);
+        return none(n, standing, choice, begun, crossed);
     }
     let states = walks.first().reverse_bits() >> (32 - n);
-    Answer::Tag(destination | states << n)
+    Answer::Tag(begun.digits | states << n)
 }
 
 /// No clear walk crosses this stage.
 #[cold]
 #[inline(never)]
-fn none(n: u32, standing: Standing, source: u32, mut walks: Walks, stage: u32) -> Answer {
-    let distance = walks.distance as u16;
+fn none(n: u32, standing: &[Notice], choice: u8, begun: Walks, stage: u32) -> Answer {
+    let source = begun.digits.wrapping_sub(begun.distance);
+    let mut walks = begun;
     for _ in 0..stage {
         walks.cross();
     }
-    let ways = Ways::new(n, source as u16, distance, stage, &walks);
-    Answer::None { stage, by: ways.lowest(standing) }
+    let ways = Ways::new(n, source as u16, begun.distance as u16, stage, &walks);
+    Answer::None { stage, by: ways.lowest(standing, choice) }
 }
 
 /// The ways onward at a stage that no clear walk crosses: out of those of its two switches that a clear walk reaches.
@@ -252,12 +304,11 @@ impl Ways {
         }
     }
 
-    /// The lowest number that stops one of them. Few notices are of the stage, so that is looked at first.
+    /// The lowest counted number that stops one of them. Few notices are of the stage, so that is looked at first.
     #[inline(always)]
-    fn lowest(&self, standing: Standing) -> u16 {
-        let mut notices = standing.numbers.iter().zip(standing.targets);
-        let first = notices.find(|(_, &target)| stage_of(target) == self.stage && self.stopped_by(target));
-        *first.expect("every way onward is stopped").0
+    fn lowest(&self, standing: &[Notice], choice: u8) -> u16 {
+        let stops = |x: &&Notice| stage_of(x.target) == self.stage && x.counts(choice) && self.stopped_by(x.target);
+        standing.iter().find(stops).expect("every way onward is stopped").number
     }
 }
 
@@ -271,76 +322,68 @@ fn stage_of(target: Target) -> u8 {
 }
 
 /// The proved book's contents: the notices that stand come first, by rising number, and every other place holds nothing.
+#[derive(Clone, Copy)]
 pub struct Book {
     pub n: u32,
-    pub numbers: Vec<u16>,
-    pub targets: Vec<Target>,
     pub count: usize,
+    pub notices: [Notice; PLACES],
 }
 
 pub const PLACES: usize = 48;
-pub const NOTHING: Target = Target::Links { stage: 0, switch: 0, set: 0 };
+const NOTHING: Notice = Notice { number: 0, class: 0, target: Target::Links { stage: 0, switch: 0, set: 0 } };
 
-/// Whether filing refuses the target for itself.
-#[inline(always)]
-fn unfit(n: u32, target: Target) -> bool {
-    let size = 1u32 << n;
-    match target {
-        Target::Links { stage, switch, set } => (stage as u32 >= n) | (switch as u32 >= size) | (set.wrapping_sub(1) > 6),
-        Target::Switch { column, switch } => (column as u32 > n) | (switch as u32 >= size),
-        Target::Pattern { stage, value, mask, set } => {
-            (stage as u32 >= n) | (set.wrapping_sub(1) > 6) | (mask as u32 >= size) | (value & mask != value) | (mask & mask.wrapping_sub(1) == 0)
-        }
-    }
-}
-
-/// 16: whether no accepted opening, filings and withdrawings make the book. A sound book is the common case, so there is no early end.
-fn unsound(book: &Book) -> bool {
-    if !(1..=12).contains(&book.n) || book.count > PLACES {
-        return true;
-    }
-    let mut last = 0;
-    let mut bad = false;
-    for (&number, &target) in book.numbers[..book.count].iter().zip(&book.targets[..book.count]) {
-        bad |= (number <= last) | unfit(book.n, target);
-        last = number;
-    }
-    for (&number, target) in book.numbers[book.count..].iter().zip(&book.targets[book.count..]) {
-        bad |= (number != 0) | !matches!(target, Target::Links { stage: 0, switch: 0, set: 0 });
-    }
-    bad
+pub fn is_nothing(x: &Notice) -> bool {
+    x.number == 0 && x.class == 0 && matches!(x.target, Target::Links { stage: 0, switch: 0, set: 0 })
 }
 
 impl Book {
-    pub fn standing(&self) -> Standing<'_> {
-        Standing { numbers: &self.numbers[..self.count], targets: &self.targets[..self.count] }
+    pub fn standing(&self) -> &[Notice] {
+        &self.notices[..self.count]
     }
 }
 
-/// None where the book is refused.
-pub fn judged(book: &Book, source: u32, destination: u32) -> Option<Answer> {
-    if unsound(book) {
-        return None;
+/// 16, 10, 5. 16 is for a book that no accepted opening, filings and withdrawings make.
+pub fn judged(book: &Book, choice: u8, source: u32, destination: u32) -> Result<Answer, u8> {
+    let n = book.n;
+    if !(1..=12).contains(&n) || book.count > PLACES {
+        return Err(16);
     }
-    Some(route(book.n, book.standing(), source, destination))
+    let (standing, rest) = book.notices.split_at(book.count);
+    // where a label is outside, the book is judged all the same
+    let Some(begun) = Walks::new::<true>(n, standing, choice, source, destination) else {
+        return Err(16);
+    };
+    if !rest.iter().all(is_nothing) {
+        return Err(16);
+    }
+    if source >> n != 0 || destination >> n != 0 {
+        return Err(10);
+    }
+    if choice > 1 {
+        return Err(5);
+    }
+    Ok(crossed(n, standing, choice, begun))
 }
 
-/// The book of filing actions, ten bytes each, that are all accepted.
-pub fn book(n: u32, rows: &[u8]) -> Book {
-    let word = |bytes: &[u8]| u16::from_be_bytes([bytes[0], bytes[1]]);
-    let mut notices: Vec<(u16, Target)> = rows
-        .chunks_exact(10)
-        .map(|r| {
-            let target = match r[3] {
-                1 => Target::Links { stage: r[4], switch: word(&r[5..]), set: r[9] },
-                2 => Target::Switch { column: r[4], switch: word(&r[5..]) },
-                _ => Target::Pattern { stage: r[4], value: word(&r[5..]), mask: word(&r[7..]), set: r[9] },
-            };
-            (word(&r[1..]), target)
-        })
-        .collect();
-    notices.sort_by_key(|x| x.0);
-    let count = notices.len();
-    notices.resize(PLACES, (0, NOTHING));
-    Book { n, numbers: notices.iter().map(|x| x.0).collect(), targets: notices.iter().map(|x| x.1).collect(), count }
+/// The notice of a filing action; one of ten bytes has class 0.
+fn filed(row: &[u8]) -> Notice {
+    let word = |at: usize| u16::from_be_bytes([row[at], row[at + 1]]);
+    let target = match row[3] {
+        1 => Target::Links { stage: row[4], switch: word(5), set: row[9] },
+        2 => Target::Switch { column: row[4], switch: word(5) },
+        _ => Target::Pattern { stage: row[4], value: word(5), mask: word(7), set: row[9] },
+    };
+    Notice { number: word(1), class: row.get(10).copied().unwrap_or(0), target }
+}
+
+/// The book of a sheet of filings that are all accepted.
+pub fn book(sheet: &[u8]) -> Book {
+    let length = if sheet[4] == 1 { 10 } else { 11 };
+    let mut book = Book { n: sheet[5].into(), count: 0, notices: [NOTHING; PLACES] };
+    for row in sheet[8..].chunks_exact(length) {
+        book.notices[book.count] = filed(row);
+        book.count += 1;
+    }
+    book.notices[..book.count].sort_by_key(|x| x.number);
+    book
 }

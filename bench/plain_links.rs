@@ -1,34 +1,15 @@
 //! The link test in plain Rust, written for speed from documents 01 and 02 alone and sharing nothing with the proved one. Like that one it judges the
 //! book that it is given, as 01's number 16 asks, with every question.
-use crate::plain::Target;
-
-pub const PLACES: usize = 48;
-
-#[derive(Clone, Copy)]
-pub struct Notice {
-    pub number: u16,
-    pub target: Target,
-}
-
-/// The notices that stand come first, by rising number, and every other place holds nothing.
-#[derive(Clone, Copy)]
-pub struct Book {
-    pub n: u8,
-    pub count: usize,
-    pub notices: [Notice; PLACES],
-}
+//! All notices count, whatever their class.
+use crate::plain::{is_nothing, Book, Target, PLACES};
 
 /// 0 where the link is clear, otherwise the lowest number that stops it; or the table's number of a refusal.
 pub type Answer = Result<u16, u8>;
 
-fn is_nothing(x: &Notice) -> bool {
-    x.number == 0 && matches!(x.target, Target::Links { stage: 0, switch: 0, set: 0 })
-}
-
 /// 16, 4, 12.
 pub fn link(book: &Book, stage: u8, switch: u16, code: u8) -> Answer {
-    let n = book.n;
-    if !(1..=12).contains(&n) || book.count > PLACES {
+    let n = book.n as u8;
+    if !(1..=12).contains(&book.n) || book.count > PLACES {
         return Err(16);
     }
     let size = 1u16 << n;
@@ -45,7 +26,7 @@ pub fn link(book: &Book, stage: u8, switch: u16, code: u8) -> Answer {
     let mut last = 0;
     let mut lowest = 0;
     for x in &book.notices[..book.count] {
-        if x.number <= last {
+        if x.number <= last || x.class > 1 {
             return Err(16);
         }
         last = x.number;

@@ -1,14 +1,11 @@
 //! A runner of sheets in plain Rust, written for speed. It shares no code with the proved one; its checks follow the definitions in
 //! specs/, so that it is a measure of cost and no second reading of document 01.
-use crate::plain::{route, Answer, Standing, Target};
+use crate::plain::{route, Answer, Notice, Target, PLACES};
 
-const STANDING: usize = 48;
-
-/// By rising number.
+/// The notices that stand, by rising number.
 struct Book {
     n: u32,
-    numbers: Vec<u16>,
-    targets: Vec<Target>,
+    standing: Vec<Notice>,
 }
 
 fn word(high: u8, low: u8) -> u16 {
@@ -16,11 +13,11 @@ fn word(high: u8, low: u8) -> u16 {
 }
 
 impl Book {
-    /// Why the target is refused, whatever stands.
-    fn refusal(&self, number: u16, target: Target) -> Option<u8> {
+    /// Why the notice is refused, whatever stands. Its class was seen to be 0 or 1 where it was read.
+    fn refusal(&self, notice: Notice) -> Option<u8> {
         let size = 1u32 << self.n;
         let bad_set = |set: u8| set < 1 || set > 7;
-        let (outside, bad, wide) = match target {
+        let (outside, bad, wide) = match notice.target {
             Target::Links { stage, switch, set } => (stage as u32 >= self.n || switch as u32 >= size, bad_set(set), false),
             Target::Switch { column, switch } => (column as u32 > self.n || switch as u32 >= size, false, false),
             Target::Pattern { stage, value, mask, set } => {
@@ -28,7 +25,7 @@ impl Book {
             }
         };
         match () {
-            _ if number == 0 => Some(3),
+            _ if notice.number == 0 => Some(3),
             _ if outside => Some(4),
             _ if bad => Some(5),
             _ if wide => Some(6),
@@ -36,16 +33,19 @@ impl Book {
         }
     }
 
-    fn file(&mut self, number: u16, target: Target) -> Option<u8> {
-        if let Some(refusal) = self.refusal(number, target) {
+    fn place(&self, number: u16) -> Result<usize, usize> {
+        self.standing.binary_search_by_key(&number, |x| x.number)
+    }
+
+    fn file(&mut self, notice: Notice) -> Option<u8> {
+        if let Some(refusal) = self.refusal(notice) {
             return Some(refusal);
         }
-        match self.numbers.binary_search(&number) {
+        match self.place(notice.number) {
             Ok(_) => Some(7),
-            Err(_) if self.numbers.len() == STANDING => Some(8),
+            Err(_) if self.standing.len() == PLACES => Some(8),
             Err(place) => {
-                self.numbers.insert(place, number);
-                self.targets.insert(place, target);
+                self.standing.insert(place, notice);
                 None
             }
         }
@@ -55,10 +55,9 @@ impl Book {
         if number == 0 {
             return Some(3);
         }
-        match self.numbers.binary_search(&number) {
+        match self.place(number) {
             Ok(place) => {
-                self.numbers.remove(place);
-                self.targets.remove(place);
+                self.standing.remove(place);
                 None
             }
             Err(_) => Some(9),
@@ -124,18 +123,24 @@ impl Text<'_> {
     }
 }
 
-fn header(sheet: &[u8]) -> Result<(u32, u16), u8> {
-    if sheet.len() < 8 || sheet[..5] != *b"FSH\0\x01" {
+/// How many bytes an action has, n, and the action count.
+fn header(sheet: &[u8]) -> Result<(usize, u32, u16), u8> {
+    if sheet.len() < 8 || sheet[..4] != *b"FSH\0" {
         return Err(14);
     }
+    let length = match sheet[4] {
+        1 => 10,
+        2 => 11,
+        _ => return Err(14),
+    };
     let count = word(sheet[6], sheet[7]);
     if !(1..=12).contains(&sheet[5]) {
         return Err(1);
     }
-    if count > 4096 || sheet.len() != 8 + 10 * count as usize {
+    if count > 4096 || sheet.len() != 8 + length * count as usize {
         return Err(15);
     }
-    Ok((sheet[5] as u32, count))
+    Ok((length, sheet[5] as u32, count))
 }
 
 fn filing(p: &[u8]) -> Option<Target> {
@@ -148,26 +153,27 @@ fn filing(p: &[u8]) -> Option<Target> {
     }
 }
 
-fn line(book: &mut Book, p: &[u8], text: &mut Text) {
+/// The last byte is a notice's class and a route's choice; an action of ten bytes has 0 there.
+fn line(book: &mut Book, p: &[u8], last: u8, text: &mut Text) {
     let number = word(p[1], p[2]);
-    if p[0] == 1 {
+    if p[0] == 1 && last <= 1 {
         if let Some(target) = filing(p) {
             text.say(b"FILE ");
             text.number(number);
-            return text.told(book.file(number, target));
+            return text.told(book.file(Notice { number, class: last, target }));
         }
-    } else if p[0] == 2 && p[3..].iter().all(|&x| x == 0) {
+    } else if p[0] == 2 && last == 0 && p[3..].iter().all(|&x| x == 0) {
         text.say(b"WITHDRAW ");
         text.number(number);
         return text.told(book.withdraw(number));
-    } else if p[0] == 3 && number == 0 && p[3] == 0 && p[4] == 0 && p[9] == 0 {
-        return route_line(book, word(p[5], p[6]), word(p[7], p[8]), text);
+    } else if p[0] == 3 && last <= 1 && number == 0 && p[3] == 0 && p[4] == 0 && p[9] == 0 {
+        return route_line(book, last, word(p[5], p[6]), word(p[7], p[8]), text);
     }
     text.say(b"ACTION");
     text.refused(2);
 }
 
-fn route_line(book: &Book, source: u16, destination: u16, text: &mut Text) {
+fn route_line(book: &Book, choice: u8, source: u16, destination: u16, text: &mut Text) {
     text.say(b"ROUTE ");
     text.number(source);
     text.say(b" ");
@@ -175,8 +181,7 @@ fn route_line(book: &Book, source: u16, destination: u16, text: &mut Text) {
     if source >> book.n != 0 || destination >> book.n != 0 {
         return text.refused(10);
     }
-    let standing = Standing { numbers: &book.numbers, targets: &book.targets };
-    match route(book.n, standing, source as u32, destination as u32) {
+    match route(book.n, &book.standing, choice, source as u32, destination as u32) {
         Answer::Tag(tag) => text.tag(book.n, tag),
         Answer::None { stage, by } => {
             text.say(b" NONE ");
@@ -194,15 +199,15 @@ pub fn run(sheet: &[u8], memory: &mut [u8]) -> usize {
     text.say(b"SHEET");
     match header(sheet) {
         Err(k) => text.refused(k),
-        Ok((n, count)) => {
-            let mut book = Book { n, numbers: Vec::with_capacity(STANDING), targets: Vec::with_capacity(STANDING) };
+        Ok((length, n, count)) => {
             text.say(b" ");
             text.number(n as u16);
             text.say(b" ");
             text.number(count);
             text.say(b"\n");
-            for part in sheet[8..].chunks_exact(10) {
-                line(&mut book, part, &mut text);
+            let mut book = Book { n, standing: Vec::with_capacity(PLACES) };
+            for part in sheet[8..].chunks_exact(length) {
+                line(&mut book, &part[..10], part.get(10).copied().unwrap_or(0), &mut text);
             }
         }
     }

@@ -1,45 +1,48 @@
 //! Asks the proved router and the plain one the same million questions, sees that they agree, and prints both times: over a book that is
-//! known to be sound, and with the book judged anew for each question.
+//! known to be sound, and with the book judged anew for each question; each with all notices counted (choice 0) and with the broken ones
+//! alone (choice 1).
 mod blocks;
 mod plain;
 mod questions;
 
 use blocks::{measured, Side, BLOCKS, QUESTIONS, ROUNDS};
-use questions::{filings, Numbers, Pool, N};
+use questions::{filings, sheet, with_classes, Numbers, Pool, N};
 use std::hint::black_box;
 
 extern "C" {
     fn bench_standing(sheet: *const u8, sheet_len: usize) -> usize;
-    fn bench_routes(sheet: *const u8, sheet_len: usize, pairs: *const u16, pairs_len: usize, answers: *mut u64, answers_len: usize) -> bool;
-    fn bench_routed(sheet: *const u8, sheet_len: usize, pairs: *const u16, pairs_len: usize, answers: *mut u64, answers_len: usize) -> u64;
+    fn bench_routes(sheet: *const u8, sheet_len: usize, choice: u8, pairs: *const u16, pairs_len: usize, answers: *mut u64, answers_len: usize) -> bool;
+    fn bench_routed(sheet: *const u8, sheet_len: usize, choice: u8, pairs: *const u16, pairs_len: usize, answers: *mut u64, answers_len: usize) -> u64;
 }
 
 /// The proved router, over a sheet of filing actions: `route`, which judges the book, and `routed`, which need not.
-fn proved_entry(sheet: &[u8], pairs: &[u16], answers: &mut [u64]) {
-    let taken = unsafe { bench_routes(sheet.as_ptr(), sheet.len(), pairs.as_ptr(), pairs.len(), answers.as_mut_ptr(), answers.len()) };
+fn proved_entry<const CHOICE: u8>(sheet: &[u8], pairs: &[u16], answers: &mut [u64]) {
+    let (asked, room) = (pairs.as_ptr(), answers.as_mut_ptr());
+    let taken = unsafe { bench_routes(sheet.as_ptr(), sheet.len(), CHOICE, asked, pairs.len(), room, answers.len()) };
     assert!(taken, "there is an answer's room for each pair");
 }
 
-fn proved_path(sheet: &[u8], pairs: &[u16], answers: &mut [u64]) {
-    let number = unsafe { bench_routed(sheet.as_ptr(), sheet.len(), pairs.as_ptr(), pairs.len(), answers.as_mut_ptr(), answers.len()) };
+fn proved_path<const CHOICE: u8>(sheet: &[u8], pairs: &[u16], answers: &mut [u64]) {
+    let (asked, room) = (pairs.as_ptr(), answers.as_mut_ptr());
+    let number = unsafe { bench_routed(sheet.as_ptr(), sheet.len(), CHOICE, asked, pairs.len(), room, answers.len()) };
     assert_eq!(number, 0, "there is an answer's room for each pair");
 }
 
-/// The plain router, over the ten-byte rows of the same sheet.
+/// The plain router, over the same sheet. As the proved one it is compiled without knowing the choice.
 fn answered(pairs: &[u16], answers: &mut [u64], route: impl Fn(u32, u32) -> plain::Answer) {
     for (pair, answer) in pairs.chunks_exact(2).zip(answers) {
         *answer = route(pair[0].into(), pair[1].into()).packed();
     }
 }
 
-fn plain_entry(sheet: &[u8], pairs: &[u16], answers: &mut [u64]) {
-    let book = plain::book(N, &sheet[8..]);
-    answered(pairs, answers, |s, d| plain::judged(black_box(&book), s, d).expect("the book is sound"));
+fn plain_entry<const CHOICE: u8>(sheet: &[u8], pairs: &[u16], answers: &mut [u64]) {
+    let (book, choice) = (plain::book(sheet), black_box(CHOICE));
+    answered(pairs, answers, |s, d| plain::judged(black_box(&book), choice, s, d).expect("the book is sound"));
 }
 
-fn plain_path(sheet: &[u8], pairs: &[u16], answers: &mut [u64]) {
-    let book = plain::book(N, &sheet[8..]);
-    answered(pairs, answers, |s, d| plain::route(N, book.standing(), s, d));
+fn plain_path<const CHOICE: u8>(sheet: &[u8], pairs: &[u16], answers: &mut [u64]) {
+    let (book, choice) = (plain::book(sheet), black_box(CHOICE));
+    answered(pairs, answers, |s, d| plain::route(N, book.standing(), choice, s, d));
 }
 
 /// Asks both sides and answers whether they agree.
@@ -75,8 +78,8 @@ fn compared(what: &str, sides: [Side<u16>; 2], sheet: &[u8], pairs: &[u16]) -> b
 fn main() {
     let mut numbers = Numbers::fixed();
     let pool = Pool::new(&mut numbers);
-    let mut sheet = vec![b'F', b'S', b'H', 0, 1, N as u8, 0, 48];
-    sheet.extend(filings(&pool, &mut numbers));
+    let rows = with_classes(&filings(&pool, &mut numbers));
+    let sheet = sheet(&rows);
     let mut pairs = Vec::with_capacity(2 * QUESTIONS);
     for _ in 0..QUESTIONS {
         let (s, d) = pool.question(&mut numbers);
@@ -85,10 +88,15 @@ fn main() {
     let standing = unsafe { bench_standing(sheet.as_ptr(), sheet.len()) };
     assert_eq!(standing, 48, "every notice stands");
 
-    println!("questions {QUESTIONS} at n = {N}, {standing} notices standing, {BLOCKS} blocks, best of {ROUNDS} for each block");
-    let path = compared("over a book that is known to be sound:", [proved_path, plain_path], &sheet, &pairs);
-    let entry = compared("with the book judged for each question:", [proved_entry, plain_entry], &sheet, &pairs);
-    if !(path && entry) {
+    let busy = rows.iter().filter(|row| row[10] == 1).count();
+    println!("questions {QUESTIONS} at n = {N}, {standing} notices standing, {busy} of them busy, {BLOCKS} blocks, best of {ROUNDS} for each block");
+    let agree = [
+        compared("over a book that is known to be sound, choice 0:", [proved_path::<0>, plain_path::<0>], &sheet, &pairs),
+        compared("over a book that is known to be sound, choice 1:", [proved_path::<1>, plain_path::<1>], &sheet, &pairs),
+        compared("with the book judged for each question, choice 0:", [proved_entry::<0>, plain_entry::<0>], &sheet, &pairs),
+        compared("with the book judged for each question, choice 1:", [proved_entry::<1>, plain_entry::<1>], &sheet, &pairs),
+    ];
+    if agree.contains(&false) {
         std::process::exit(1);
     }
 }

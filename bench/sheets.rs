@@ -1,5 +1,6 @@
-//! Runs one full sheet by the proved program's function and by a plain one, sees that the bytes printed agree, and prints both
-//! times. The sheet: 48 filings, 4,046 routes, and a withdrawal and a new filing in their midst.
+//! Runs a full sheet by the proved program's function and by a plain one, sees that the bytes printed agree, and prints both
+//! times. The sheet: 48 filings, 4,046 routes, and a withdrawal and a new filing in their midst; in version 1, and in version 2 with
+//! notices of both classes and routes of both choices.
 #[path = "../include/tabashfar.rs"]
 #[allow(dead_code)]
 mod face;
@@ -8,7 +9,7 @@ mod plain;
 mod plain_sheet;
 mod questions;
 
-use questions::{action, filings, Numbers, Pool, N};
+use questions::{action, filings, sheet, with_classes, Numbers, Pool, N};
 use std::hint::black_box;
 use std::time::Instant;
 
@@ -20,47 +21,56 @@ fn proved(sheet: &[u8], memory: &mut [u8]) -> usize {
     face::run(sheet, memory).expect("the memory has room for every line")
 }
 
-fn full_sheet() -> Vec<u8> {
+/// Its actions, of version 1.
+fn full_sheet() -> Vec<[u8; 10]> {
     let mut numbers = Numbers::fixed();
     let pool = Pool::new(&mut numbers);
-    let rows = filings(&pool, &mut numbers);
-    let mut sheet = b"FSH\0\x01".to_vec();
-    sheet.push(N as u8);
-    sheet.extend((COUNT as u16).to_be_bytes());
-    sheet.extend(&rows);
+    let mut rows = filings(&pool, &mut numbers);
+    let first = rows[0];
     for k in 48..COUNT {
-        match k {
-            2000 => sheet.extend([2, rows[1], rows[2], 0, 0, 0, 0, 0, 0, 0]),
-            2001 => sheet.extend(&rows[..10]),
+        rows.push(match k {
+            2000 => [2, first[1], first[2], 0, 0, 0, 0, 0, 0, 0],
+            2001 => first,
             _ => {
                 let (s, d) = pool.question(&mut numbers);
-                sheet.extend(action(3, 0, 0, 0, s, d, 0));
+                action(3, 0, 0, 0, s, d, 0)
             }
-        }
+        });
     }
-    sheet
+    rows
 }
 
-fn main() {
-    let sheet = full_sheet();
+/// Runs the sheet by both sides and answers whether they agree.
+fn compared(what: &str, sheet: &[u8]) -> bool {
     let mut memory = [vec![0u8; ROOM], vec![0xffu8; ROOM]];
     let mut best = [f64::INFINITY; 2];
     let mut wrote = [0; 2];
     for _ in 0..ROUNDS {
         for (side, run) in [proved, plain_sheet::run].into_iter().enumerate() {
             let began = Instant::now();
-            wrote[side] = run(black_box(&sheet), &mut memory[side]);
+            wrote[side] = run(black_box(sheet), &mut memory[side]);
             best[side] = best[side].min(began.elapsed().as_secs_f64());
         }
     }
-    println!("a sheet of {COUNT} actions at n = {N}, 48 notices standing, best of {ROUNDS} runs");
+    println!("{what}");
     println!("proved {:.1} us a sheet", best[0] * 1e6);
     println!("plain {:.1} us a sheet", best[1] * 1e6);
     println!("ratio {:.2}", best[0] / best[1]);
-    if memory[0][..wrote[0]] == memory[1][..wrote[1]] {
+    let agree = memory[0][..wrote[0]] == memory[1][..wrote[1]];
+    if agree {
         println!("agree on {} bytes", wrote[0]);
     } else {
         println!("the bytes printed differ");
+    }
+    agree
+}
+
+fn main() {
+    let rows = full_sheet();
+    println!("a sheet of {COUNT} actions at n = {N}, 48 notices standing, best of {ROUNDS} runs");
+    let one = compared("version 1:", &sheet(&rows));
+    let two = compared("version 2, classes and choices mixed:", &sheet(&with_classes(&rows)));
+    if !(one && two) {
         std::process::exit(1);
     }
 }

@@ -3,6 +3,7 @@
 //!
 //!     desk_runs DIR
 
+mod desk_classes;
 mod desk_sheets;
 #[allow(dead_code)]
 mod draw;
@@ -19,7 +20,7 @@ use std::path::Path;
 
 const ABOUT: &str = "\
 The sheets of `stdin`, in order: each stands there after its length in two bytes. After each action, or each header that is
-refused, stands the line that it prints. The lines are those of a model in another language, written from document 01 and not from the code
+refused, stands the line that it prints. The lines are those of a model in another language, written from the documents and not from the code
 (docs/TRUST.md). `sh trials/desk_runs` writes this file, `stdin` and `stdout`.
 ";
 
@@ -31,7 +32,7 @@ const IN_SHORT_MEMORY: &str = "MEMORY REFUSED 13\n\nSHEET 3 0\n\n";
 
 fn main() {
     let dir = std::env::args().nth(1).expect("the folder to write to");
-    let sheets = desk_sheets::all();
+    let sheets = [desk_sheets::all(), desk_classes::all()].concat();
     let input: Vec<u8> = sheets.iter().flat_map(|told| [&(told.sheet.len() as u16).to_be_bytes(), &told.sheet[..]].concat()).collect();
     assert!(input.len() <= READ, "crates/desk_runs would not read all of {} bytes", input.len());
     let printed: String = sheets.iter().map(|told| printed(told) + "\n").collect();

@@ -1,11 +1,12 @@
-//! The sheets that crates/desk_runs runs: every refusal that is printed, every layout fault, counts and lengths. Each has a title, and words
-//! for its actions where they are told one by one.
+//! The sheets that crates/desk_runs runs, those of version 1: every refusal that is printed, every layout fault, counts and lengths. Each has a
+//! title, and words for its actions where they are told one by one.
 
 use crate::draw::Draw;
-use crate::model::{Notice, Target};
+use crate::model::{Notice, Target, ALL, BROKEN};
 use crate::questions::Numbers;
-use crate::rows::{filing, question, sheet_of, withdrawal, Row};
+use crate::rows::{classed, filing, question, sheet_of, withdrawal, Row};
 
+#[derive(Clone)]
 pub struct Told {
     pub title: String,
     pub sheet: Vec<u8>,
@@ -13,41 +14,49 @@ pub struct Told {
 }
 
 /// An action, and what it is in words.
-type Act = (String, Row);
+pub type Act = (String, Row);
 
-fn links(number: u16, stage: u8, switch: u16, set: u8) -> Act {
-    (format!("file {number}: links, stage {stage}, switch {switch}, set {set}"), filing(Notice { number, target: Target::Links { stage, switch, set } }))
+fn file(words: String, number: u16, target: Target) -> Act {
+    (format!("file {number}: {words}"), filing(Notice { number, target, class: BROKEN }))
 }
 
-fn switch(number: u16, column: u8, switch: u16) -> Act {
-    (format!("file {number}: switch, column {column}, switch {switch}"), filing(Notice { number, target: Target::Switch { column, switch } }))
+pub fn links(number: u16, stage: u8, switch: u16, set: u8) -> Act {
+    file(format!("links, stage {stage}, switch {switch}, set {set}"), number, Target::Links { stage, switch, set })
 }
 
-fn pattern(number: u16, stage: u8, value: u16, mask: u16, set: u8) -> Act {
-    let target = Target::Pattern { stage, value, mask, set };
-    (format!("file {number}: pattern, stage {stage}, value {value}, mask {mask}, set {set}"), filing(Notice { number, target }))
+pub fn switch(number: u16, column: u8, switch: u16) -> Act {
+    file(format!("switch, column {column}, switch {switch}"), number, Target::Switch { column, switch })
 }
 
-fn withdraw(number: u16) -> Act {
+pub fn pattern(number: u16, stage: u8, value: u16, mask: u16, set: u8) -> Act {
+    let words = format!("pattern, stage {stage}, value {value}, mask {mask}, set {set}");
+    file(words, number, Target::Pattern { stage, value, mask, set })
+}
+
+pub fn withdraw(number: u16) -> Act {
     (format!("withdraw {number}"), withdrawal(number))
 }
 
-fn route(source: u16, destination: u16) -> Act {
-    (format!("route {source} to {destination}"), question(source, destination))
+pub fn route(source: u16, destination: u16) -> Act {
+    (format!("route {source} to {destination}"), question(source, destination, ALL))
 }
 
 /// Ten bytes that are no action.
-fn fault(words: &str, row: Row) -> Act {
-    (words.to_string(), row)
+fn fault(words: &str, ten: [u8; 10]) -> Act {
+    (words.to_string(), classed(ten, 0))
+}
+
+pub fn sheet_in(version: u16, title: &str, n: u8, acts: Vec<Act>) -> Told {
+    let (actions, rows): (Vec<String>, Vec<Row>) = acts.into_iter().unzip();
+    Told { title: title.to_string(), sheet: sheet_of(version, n, &rows), actions }
 }
 
 fn sheet(title: &str, n: u8, acts: Vec<Act>) -> Told {
-    let (actions, rows): (Vec<String>, Vec<Row>) = acts.into_iter().unzip();
-    Told { title: title.to_string(), sheet: sheet_of(n, &rows), actions }
+    sheet_in(1, title, n, acts)
 }
 
 /// A sheet whose actions are not told one by one.
-fn bytes(title: &str, sheet: Vec<u8>) -> Told {
+pub fn bytes(title: &str, sheet: Vec<u8>) -> Told {
     Told { title: title.to_string(), sheet, actions: Vec::new() }
 }
 
@@ -63,23 +72,23 @@ pub fn all() -> Vec<Told> {
 }
 
 fn example() -> Told {
-    sheet(
-        "01's example",
-        3,
-        vec![
-            route(1, 0),
-            links(7, 0, 1, 4),
-            pattern(8, 0, 1, 3, 4),
-            switch(7, 1, 2),
-            withdraw(7),
-            route(1, 0),
-            pattern(9, 0, 1, 1, 7),
-            switch(10, 1, 2),
-            route(1, 0),
-            withdraw(9),
-            route(8, 0),
-        ],
-    )
+    sheet("01's example", 3, example_acts())
+}
+
+pub fn example_acts() -> Vec<Act> {
+    vec![
+        route(1, 0),
+        links(7, 0, 1, 4),
+        pattern(8, 0, 1, 3, 4),
+        switch(7, 1, 2),
+        withdraw(7),
+        route(1, 0),
+        pattern(9, 0, 1, 1, 7),
+        switch(10, 1, 2),
+        route(1, 0),
+        withdraw(9),
+        route(8, 0),
+    ]
 }
 
 fn filings() -> Told {
@@ -170,37 +179,38 @@ fn routes() -> Told {
 }
 
 fn faults() -> Told {
-    sheet(
-        "a layout fault of each kind: unknown actions and kinds, and each spare field",
-        3,
-        vec![
-            fault("action 0", [0, 0, 0, 0, 0, 0, 0, 0, 0, 0]),
-            fault("action 4", [4, 0, 7, 1, 0, 0, 1, 0, 0, 4]),
-            fault("action 255", [255, 0, 0, 0, 0, 0, 0, 0, 0, 0]),
-            fault("kind 0", [1, 0, 7, 0, 0, 0, 1, 0, 0, 4]),
-            fault("kind 4", [1, 0, 7, 4, 0, 0, 1, 0, 0, 4]),
-            fault("kind 255", [1, 0, 7, 255, 0, 0, 1, 0, 0, 4]),
-            fault("links with a mask", [1, 0, 7, 1, 0, 0, 1, 0, 1, 4]),
-            fault("links with the highest bit of the mask", [1, 0, 7, 1, 0, 0, 1, 128, 0, 4]),
-            fault("a switch with a mask", [1, 0, 7, 2, 1, 0, 2, 1, 0, 0]),
-            fault("a switch with a set", [1, 0, 7, 2, 1, 0, 2, 0, 0, 1]),
-            fault("number 0, and links with a mask", [1, 0, 0, 1, 0, 0, 1, 0, 1, 4]),
-            fault("a withdrawal with a kind", [2, 0, 7, 1, 0, 0, 0, 0, 0, 0]),
-            fault("a withdrawal with a stage", [2, 0, 7, 0, 1, 0, 0, 0, 0, 0]),
-            fault("a withdrawal with a switch", [2, 0, 7, 0, 0, 0, 1, 0, 0, 0]),
-            fault("a withdrawal with the high byte of a switch", [2, 0, 7, 0, 0, 1, 0, 0, 0, 0]),
-            fault("a withdrawal with a mask", [2, 0, 7, 0, 0, 0, 0, 0, 1, 0]),
-            fault("a withdrawal with a set", [2, 0, 7, 0, 0, 0, 0, 0, 0, 1]),
-            fault("a route with a number", [3, 0, 1, 0, 0, 0, 1, 0, 0, 0]),
-            fault("a route with the high byte of a number", [3, 1, 0, 0, 0, 0, 1, 0, 0, 0]),
-            fault("a route with a kind", [3, 0, 0, 1, 0, 0, 1, 0, 0, 0]),
-            fault("a route with a stage", [3, 0, 0, 0, 1, 0, 1, 0, 0, 0]),
-            fault("a route with a set", [3, 0, 0, 0, 0, 0, 1, 0, 0, 1]),
-            links(7, 0, 1, 4),
-            withdraw(7),
-            route(1, 0),
-        ],
-    )
+    sheet("a layout fault of each kind: unknown actions and kinds, and each spare field", 3, fault_acts())
+}
+
+/// Each fault of ten bytes, and then three actions without one.
+pub fn fault_acts() -> Vec<Act> {
+    vec![
+        fault("action 0", [0, 0, 0, 0, 0, 0, 0, 0, 0, 0]),
+        fault("action 4", [4, 0, 7, 1, 0, 0, 1, 0, 0, 4]),
+        fault("action 255", [255, 0, 0, 0, 0, 0, 0, 0, 0, 0]),
+        fault("kind 0", [1, 0, 7, 0, 0, 0, 1, 0, 0, 4]),
+        fault("kind 4", [1, 0, 7, 4, 0, 0, 1, 0, 0, 4]),
+        fault("kind 255", [1, 0, 7, 255, 0, 0, 1, 0, 0, 4]),
+        fault("links with a mask", [1, 0, 7, 1, 0, 0, 1, 0, 1, 4]),
+        fault("links with the highest bit of the mask", [1, 0, 7, 1, 0, 0, 1, 128, 0, 4]),
+        fault("a switch with a mask", [1, 0, 7, 2, 1, 0, 2, 1, 0, 0]),
+        fault("a switch with a set", [1, 0, 7, 2, 1, 0, 2, 0, 0, 1]),
+        fault("number 0, and links with a mask", [1, 0, 0, 1, 0, 0, 1, 0, 1, 4]),
+        fault("a withdrawal with a kind", [2, 0, 7, 1, 0, 0, 0, 0, 0, 0]),
+        fault("a withdrawal with a stage", [2, 0, 7, 0, 1, 0, 0, 0, 0, 0]),
+        fault("a withdrawal with a switch", [2, 0, 7, 0, 0, 0, 1, 0, 0, 0]),
+        fault("a withdrawal with the high byte of a switch", [2, 0, 7, 0, 0, 1, 0, 0, 0, 0]),
+        fault("a withdrawal with a mask", [2, 0, 7, 0, 0, 0, 0, 0, 1, 0]),
+        fault("a withdrawal with a set", [2, 0, 7, 0, 0, 0, 0, 0, 0, 1]),
+        fault("a route with a number", [3, 0, 1, 0, 0, 0, 1, 0, 0, 0]),
+        fault("a route with the high byte of a number", [3, 1, 0, 0, 0, 0, 1, 0, 0, 0]),
+        fault("a route with a kind", [3, 0, 0, 1, 0, 0, 1, 0, 0, 0]),
+        fault("a route with a stage", [3, 0, 0, 0, 1, 0, 1, 0, 0, 0]),
+        fault("a route with a set", [3, 0, 0, 0, 0, 0, 1, 0, 0, 1]),
+        links(7, 0, 1, 4),
+        withdraw(7),
+        route(1, 0),
+    ]
 }
 
 /// Routes with no clear path, where several notices could be named.
@@ -377,8 +387,8 @@ fn counts() -> Vec<Told> {
     vec![
         sheet("count 0", 3, vec![]),
         sheet("count 1", 3, vec![route(2, 6)]),
-        bytes("count 4,096, every action zero", sheet_of(12, &[[0; 10]; 4096])),
-        bytes("count 4,097, of the right length", sheet_of(12, &[[0; 10]; 4097])),
+        bytes("count 4,096, every action zero", sheet_of(1, 12, &[[0; 11]; 4096])),
+        bytes("count 4,097, of the right length", sheet_of(1, 12, &[[0; 11]; 4097])),
     ]
 }
 
@@ -390,16 +400,19 @@ fn lengths() -> Vec<Told> {
         bytes("01's example without its last byte", whole[..117].to_vec()),
         bytes("01's example with a byte more", longer(&[0])),
         bytes("01's example without its last action", whole[..108].to_vec()),
-        bytes("01's example with an action more", longer(&withdrawal(1))),
+        bytes("01's example with an action more", longer(&withdrawal(1)[..10])),
         bytes("a header that counts one action, and no action", one_counted),
         bytes("no bytes", vec![]),
-        bytes("seven bytes", sheet_of(3, &[])[..7].to_vec()),
-        bytes("eight bytes", sheet_of(12, &[])),
+        bytes("seven bytes", sheet_of(1, 3, &[])[..7].to_vec()),
+        bytes("eight bytes", sheet_of(1, 12, &[])),
     ]
 }
 
+pub fn header(mark: &[u8], version: u16, n: u8, count: u16) -> Vec<u8> {
+    [mark, &version.to_be_bytes(), &[n], &count.to_be_bytes()].concat()
+}
+
 fn headers() -> Vec<Told> {
-    let header = |mark: &[u8], version: u16, n: u8, count: u16| [mark, &version.to_be_bytes(), &[n], &count.to_be_bytes()].concat();
     let mut all = Vec::new();
     for mark in ["fSH", "FsH", "FSh", "HSF"] {
         all.push(bytes(&format!("mark {mark}"), header(mark.as_bytes(), 1, 3, 0)));
@@ -485,5 +498,5 @@ fn morning() -> Told {
 /// More actions than a byte counts, drawn with a fixed seed.
 fn different() -> Told {
     let mut draw = Draw(Numbers::fixed());
-    bytes("300 actions of which no two are the same", sheet_of(6, &draw.different_rows(6, 300)))
+    bytes("300 actions of which no two are the same", sheet_of(1, 6, &draw.different_rows(1, 6, 300)))
 }

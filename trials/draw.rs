@@ -1,9 +1,9 @@
 //! What the cases are drawn from. Good values are drawn most often; bad ones over the whole range of their type, those that are bad by one
 //! high bit alone among them.
 
-use crate::model::{far_end, tag_to_steps, Book, Notice, Target};
+use crate::model::{far_end, tag_to_steps, Book, Notice, Target, BROKEN};
 use crate::questions::Numbers;
-use crate::rows::{filing, question, withdrawal, Row};
+use crate::rows::{filing, question, width, withdrawal, Row};
 use std::collections::BTreeSet;
 
 pub struct Draw(pub Numbers);
@@ -76,6 +76,16 @@ impl Draw {
         if self.one_in(12) { self.below(256) as u8 } else { 1 + self.below(7) as u8 }
     }
 
+    /// The class of a notice, or the choice of a route: 0 or 1, or any byte.
+    pub fn class(&mut self) -> u8 {
+        if self.one_in(16) { self.below(256) as u8 } else { self.below(2) as u8 }
+    }
+
+    /// A sheet's version.
+    pub fn version(&mut self) -> u16 {
+        1 + self.below(2) as u16
+    }
+
     /// Few numbers, so that they are used again, or any.
     pub fn number(&mut self) -> u16 {
         if self.one_in(12) { self.below(1 << 16) as u16 } else { self.below(61) as u16 }
@@ -142,8 +152,13 @@ impl Draw {
         if self.one_in(2) { self.label(n) } else { near[self.below(near.len() as u32) as usize] }
     }
 
-    /// A notice near these labels, so that several name one link and routes between them meet it.
+    /// A notice near these labels, of either class or none.
     pub fn notice(&mut self, n: u8, near: &[u16]) -> Notice {
+        Notice { class: self.class(), ..self.broken(n, near) }
+    }
+
+    /// A broken notice near these labels, so that several name one link and routes between them meet it.
+    fn broken(&mut self, n: u8, near: &[u16]) -> Notice {
         let number = self.number();
         let stage = self.stage(n);
         let label = self.pick(n, near);
@@ -159,7 +174,7 @@ impl Draw {
                 Target::Pattern { stage, value, mask, set: self.set() }
             }
         };
-        Notice { number, target }
+        Notice { number, target, class: BROKEN }
     }
 
     /// A target that names this link, and perhaps others: the link's far end is given too.
@@ -193,32 +208,35 @@ impl Draw {
         Link { stage, switch, code, far_end: far_end(n, stage, switch, code) }
     }
 
-    /// An action: a filing mostly, a withdrawal, a route, or bytes that are none of them.
-    pub fn row(&mut self, n: u8, near: &[u16]) -> Row {
-        match self.below(10) {
-            0..=5 => filing(self.notice(n, near)),
+    /// An action: a filing mostly, a withdrawal, a route, or bytes that are none of them; of version 1 without a class.
+    pub fn row(&mut self, version: u16, n: u8, near: &[u16]) -> Row {
+        let mut row = match self.below(10) {
+            0..=5 => filing(self.broken(n, near)),
             6 | 7 => withdrawal(self.number()),
-            8 => question(self.pick(n, near), self.pick(n, near)),
+            8 => question(self.pick(n, near), self.pick(n, near), 0),
             _ => {
-                let mut row = filing(self.notice(n, near));
+                let mut row = filing(self.broken(n, near));
                 row[self.below(10) as usize] ^= 1 << self.below(8);
                 row
             }
-        }
+        };
+        let has_class = version == 2 && (row[0] != 2 || self.one_in(8));
+        row[10] = if has_class { self.class() } else { 0 };
+        row
     }
 
-    pub fn rows(&mut self, n: u8, near: &[u16], count: u32) -> Vec<Row> {
-        (0..count).map(|_| self.row(n, near)).collect()
+    pub fn rows(&mut self, version: u16, n: u8, near: &[u16], count: u32) -> Vec<Row> {
+        (0..count).map(|_| self.row(version, n, near)).collect()
     }
 
-    /// So many actions of which no two are the same.
-    pub fn different_rows(&mut self, n: u8, count: usize) -> Vec<Row> {
+    /// So many actions of which no two are the same in a sheet of this version.
+    pub fn different_rows(&mut self, version: u16, n: u8, count: usize) -> Vec<Row> {
         let near = self.near(n);
         let mut seen = BTreeSet::new();
         let mut rows = Vec::new();
         while rows.len() < count {
-            let row = self.row(n, &near);
-            if seen.insert(row) {
+            let row = self.row(version, n, &near);
+            if seen.insert(row[..width(version)].to_vec()) {
                 rows.push(row);
             }
         }

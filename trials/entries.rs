@@ -3,7 +3,7 @@
 
 use crate::compared::Compared;
 use crate::face::{self, Refused};
-use crate::model::{self, Action, Book, Notice, Stopped, Target};
+use crate::model::{self, Action, Book, Notice, Stopped, Target, ALL, BROKEN_ONLY};
 
 /// A refusal as the model gives it: the number, and at 11 the stage and the notice. With another number both have to be 0.
 fn told<T>(answer: Result<T, Refused>) -> Result<T, (u8, Option<Stopped>)> {
@@ -37,15 +37,21 @@ pub fn steps(compared: &mut Compared, n: u8, source: u16, memory: &[u8]) {
     compared.same("steps to tag", number(face::steps_to_tag(n, source, memory)), model::steps_to_tag(n, source, memory), case);
 }
 
-/// A route; where no path is clear, what the model names.
-pub fn route(compared: &mut Compared, sheet: &[u8], book: &Result<Book, u8>, source: u16, destination: u16) -> Option<Stopped> {
-    let plain = book.as_ref().map_err(|&k| (k, None)).and_then(|b| b.route(source, destination));
-    let entry = match plain {
-        Ok(_) => "route, a tag",
-        Err((11, _)) => "route, no clear path",
-        Err(_) => "route, refused",
+/// A route from a source to a destination with a choice; where no path is clear, what the model names.
+pub fn route(
+    compared: &mut Compared, sheet: &[u8], book: &Result<Book, u8>, (source, destination): (u16, u16), choice: u8,
+) -> Option<Stopped> {
+    let plain = book.as_ref().map_err(|&k| (k, None)).and_then(|b| b.route(source, destination, choice));
+    let entry = match (plain, choice) {
+        (Ok(_), ALL) => "route, a tag",
+        (Ok(_), _) => "route over broken notices only, a tag",
+        (Err((11, _)), ALL) => "route, no clear path",
+        (Err((11, _)), _) => "route over broken notices only, no clear path",
+        (Err((5, _)), _) => "route, no such choice",
+        (Err(_), _) => "route, refused",
     };
-    compared.same(entry, told(face::route(sheet, source, destination)), plain, || format!("sheet {sheet:?} from {source} to {destination}"));
+    let case = || format!("sheet {sheet:?} from {source} to {destination} choice {choice}");
+    compared.same(entry, told(face::route(sheet, source, destination, choice)), plain, case);
     plain.err().and_then(|(_, stopped)| stopped)
 }
 
@@ -59,16 +65,22 @@ fn packed(answer: Result<u32, (u8, Option<Stopped>)>) -> u64 {
 }
 
 /// Routes for many pairs in one call, against the model's routes one after the other; the room asked for is include/tabashfar.h's.
-pub fn routes(compared: &mut Compared, sheet: &[u8], book: &Result<Book, u8>, pairs: &[u16], room: usize) {
+pub fn routes(compared: &mut Compared, sheet: &[u8], book: &Result<Book, u8>, choice: u8, pairs: &[u16], room: usize) {
     let (mut proved, mut plain) = (vec![0xAAAA_AAAA_AAAA_AAAA; room], vec![0xAAAA_AAAA_AAAA_AAAA; room]);
     let short = pairs.len() % 2 == 1 || 2 * room < pairs.len();
     let answer = book.as_ref().map_err(|&k| k).and_then(|b| if short { Err(13) } else { Ok(b) });
     if let Ok(b) = answer {
-        pairs.chunks(2).zip(&mut plain).for_each(|(pair, place)| *place = packed(b.route(pair[0], pair[1])));
+        pairs.chunks(2).zip(&mut plain).for_each(|(pair, place)| *place = packed(b.route(pair[0], pair[1], choice)));
     }
-    let entry = if answer.is_ok() { "routes in one call" } else { "routes in one call, refused" };
-    let given = number(face::routes(sheet, pairs, &mut proved));
-    compared.same(entry, (given, proved), (answer.map(|_| ()), plain), || format!("sheet {sheet:?} pairs {pairs:?} room {room}"));
+    let entry = match (answer.is_ok(), choice) {
+        (true, ALL) => "routes in one call",
+        (true, BROKEN_ONLY) => "routes over broken notices only in one call",
+        (true, _) => "routes in one call, no such choice",
+        (false, _) => "routes in one call, refused",
+    };
+    let given = number(face::routes(sheet, choice, pairs, &mut proved));
+    let case = || format!("sheet {sheet:?} choice {choice} pairs {pairs:?} room {room}");
+    compared.same(entry, (given, proved), (answer.map(|_| ()), plain), case);
 }
 
 pub fn walk(compared: &mut Compared, sheet: &[u8], book: &Result<Book, u8>, source: u16, tag: u32) {
@@ -113,9 +125,9 @@ pub fn open(compared: &mut Compared, n: u8, room: usize) {
 /// The filing of a notice, by the entry that its target has.
 pub fn proved_filing(sheet: &[u8], x: Notice, memory: &mut [u8]) -> Result<usize, Refused> {
     let filed = match x.target {
-        Target::Links { stage, switch, set } => face::file_links(sheet, x.number, stage, switch, set, memory),
-        Target::Switch { column, switch } => face::file_switch(sheet, x.number, column, switch, memory),
-        Target::Pattern { stage, value, mask, set } => face::file_pattern(sheet, x.number, stage, value, mask, set, memory),
+        Target::Links { stage, switch, set } => face::file_links(sheet, x.number, stage, switch, set, x.class, memory),
+        Target::Switch { column, switch } => face::file_switch(sheet, x.number, column, switch, x.class, memory),
+        Target::Pattern { stage, value, mask, set } => face::file_pattern(sheet, x.number, stage, value, mask, set, x.class, memory),
     };
     filed.map(<[u8]>::len)
 }
@@ -152,16 +164,16 @@ pub fn action_at(compared: &mut Compared, sheet: &[u8], k: usize) {
     compared.same("action part", place(face::action_part(sheet, k)), place(model::action_part(sheet, k)), case);
 }
 
-/// "action 8 bits, number 16, kind 8, stage 8, switch 16, mask 16, set 8", as the model's action has them.
-fn fields_of(action: Action) -> [u16; 7] {
+/// "action 8 bits, number 16, kind 8, stage 8, switch 16, mask 16, set 8", and "class last", as the model's action has them.
+fn fields_of(action: Action) -> [u16; 8] {
     match action {
-        Action::File(Notice { number, target }) => match target {
-            Target::Links { stage, switch, set } => [1, number, 1, stage.into(), switch, 0, set.into()],
-            Target::Switch { column, switch } => [1, number, 2, column.into(), switch, 0, 0],
-            Target::Pattern { stage, value, mask, set } => [1, number, 3, stage.into(), value, mask, set.into()],
+        Action::File(Notice { number, target, class }) => match target {
+            Target::Links { stage, switch, set } => [1, number, 1, stage.into(), switch, 0, set.into(), class.into()],
+            Target::Switch { column, switch } => [1, number, 2, column.into(), switch, 0, 0, class.into()],
+            Target::Pattern { stage, value, mask, set } => [1, number, 3, stage.into(), value, mask, set.into(), class.into()],
         },
-        Action::Withdraw(number) => [2, number, 0, 0, 0, 0, 0],
-        Action::Route { source, destination } => [3, 0, 0, 0, source, destination, 0],
+        Action::Withdraw(number) => [2, number, 0, 0, 0, 0, 0, 0],
+        Action::Route { source, destination, choice } => [3, 0, 0, 0, source, destination, 0, choice.into()],
     }
 }
 
@@ -170,12 +182,13 @@ pub fn action_reader(compared: &mut Compared, part: &[u8], room: usize) {
     let plain = model::read_action(part).map(fields_of);
     let case = || format!("part {part:?} room {room}");
     compared.same("action reader", number(face::read_action(part)).map(u16::from), plain.map(|f| f[0]), case);
-    let by_name = |f: face::Fields| [f.action.into(), f.number, f.kind.into(), f.stage.into(), f.switch, f.mask, f.set.into()];
+    let by_name =
+        |f: face::Fields| [f.action.into(), f.number, f.kind.into(), f.stage.into(), f.switch, f.mask, f.set.into(), f.class.into()];
     compared.same("fields of an action", number(face::fields(part)).map(by_name), plain, case);
     let (mut proved, mut memory) = (vec![0xAAAA; room], vec![0xAAAA; room]);
-    let answer = plain.and_then(|f| if room < 7 { Err(13) } else { Ok(f) });
+    let answer = plain.and_then(|f| if room < 8 { Err(13) } else { Ok(f) });
     if let Ok(fields) = answer {
-        memory[..7].copy_from_slice(&fields);
+        memory[..8].copy_from_slice(&fields);
     }
     let given = number(face::action_fields(part, &mut proved)).map(u16::from);
     compared.same("fields in memory", (given, proved), (answer.map(|f| f[0]), memory), case);
@@ -183,7 +196,7 @@ pub fn action_reader(compared: &mut Compared, part: &[u8], room: usize) {
 
 /// Running a sheet; the model's text is right for any room, and the room asked for is include/tabashfar.h's.
 pub fn run(compared: &mut Compared, sheet: &[u8], room: usize) {
-    let count = model::header(sheet).map_or(0, |(_, count)| usize::from(count));
+    let count = model::header(sheet).map_or(0, |(_, count, _)| usize::from(count));
     let (mut proved, mut plain) = (vec![170; room], vec![170; room]);
     let text = model::run(sheet);
     let answer = if room < 24 + 48 * count { Err(13) } else { Ok(text.len()) };

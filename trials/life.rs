@@ -44,8 +44,8 @@ impl Host {
                 let own = after.withdraw(k);
                 self.changes(compared, row, room, (after, own), |sheet, lent| number(entries::proved_withdrawing(sheet, k, lent)))
             }
-            Ok(Action::Route { source, destination }) => {
-                entries::route(compared, self.sheet(), &Ok(self.book.clone()), source, destination);
+            Ok(Action::Route { source, destination, choice }) => {
+                entries::route(compared, self.sheet(), &Ok(self.book.clone()), (source, destination), choice);
                 Ok(0)
             }
             Err(_) => Ok(0),
@@ -67,14 +67,28 @@ impl Host {
         let case = || format!("sheet {before:?} action {row:?} room {room}");
         compared.same("a host's life, a change", (given, self.memory[1 - self.at]), (answer, left), case);
         if let Ok(length) = answer {
+            if before[4] != left[4] {
+                compared.tempts(if left[4] == 2 { "a host's life, from version 1 to 2" } else { "a host's life, from version 2 to 1" });
+            }
             (self.at, self.length, self.book) = (1 - self.at, length, after);
         }
         answer
     }
 
+    /// How many bytes the sheet has after this action, where it is a change that is accepted; otherwise as many as now.
+    fn needed(&self, row: &Row) -> usize {
+        let mut after = self.book.clone();
+        match model::read_action(row) {
+            Ok(Action::File(notice)) => drop(after.file(notice)),
+            Ok(Action::Withdraw(number)) => drop(after.withdraw(number)),
+            _ => {}
+        }
+        after.sheet().len()
+    }
+
     /// The sheet in hand is that of one long sheet of the same actions.
     fn ends(&self, compared: &mut Compared) {
-        let all = sheet_of(self.book.size(), &self.actions);
+        let all = sheet_of(2, self.book.size(), &self.actions);
         let mut memory = [0; face::BOOK];
         let written = number(face::write(&all, &mut memory));
         compared.same("a host's life, all of it as one sheet", written, Ok(self.sheet()), || format!("sheet {all:?}"));
@@ -82,16 +96,19 @@ impl Host {
     }
 }
 
-/// So many actions, in stretches in which the book fills and in which it empties.
+/// So many actions, in stretches in which the book fills and in which it empties. In some lives busy notices are so rare that the last one goes
+/// and another comes.
 fn lived(compared: &mut Compared, draw: &mut Draw, count: u32) {
     let n = 1 + draw.below(12) as u8;
     let near = draw.near(n);
+    let rare = [1, 4, 40][draw.below(3) as usize];
     let mut host = Host::opened(compared, n);
     for k in 0..count {
         let fills = k / 300 % 2 == 0;
         let withdraws = draw.one_in(if fills { 30 } else { 2 });
-        let row = if withdraws { withdrawal(draw.standing(&host.book)) } else { draw.row(n, &near) };
-        let edge = host.length + draw.below(24) as usize - 8;
+        let version = if draw.one_in(rare) { 2 } else { 1 };
+        let row = if withdraws { withdrawal(draw.standing(&host.book)) } else { draw.row(version, n, &near) };
+        let edge = host.needed(&row) + draw.below(24) as usize - 8;
         let room = if draw.one_in(6) { edge.min(face::BOOK) } else { face::BOOK };
         host.acts(compared, row, room);
     }

@@ -1,4 +1,4 @@
-//! A reference model of document 01 ("What the build covers, and its rules") and of document 02's §1 to §3, by the most obvious means.
+//! A reference model of document 01 ("What the build covers, and its rules") and of document 02's §1 to §5, by the most obvious means.
 //! Sentences in quotation marks are the documents' own. It was written from the documents alone, without sight of the proved code.
 #![allow(dead_code)]
 
@@ -19,6 +19,17 @@ const MOST_ACTIONS: u16 = 4096;
 const HEADER_LENGTH: usize = 8;
 /// "Then ten bytes an action"
 const ACTION_LENGTH: usize = 10;
+/// 02, §5: "The sheet goes to version 2: eleven bytes an action, class last."
+const CLASSED_LENGTH: usize = 11;
+
+/// 02, §5: "Each notice gets a class, 0 broken or 1 busy"
+pub const BROKEN: u8 = 0;
+/// 02, §5: "0 broken or 1 busy"
+pub const BUSY: u8 = 1;
+/// 02, §5: "For a route, class 0 there means all notices count"
+pub const ALL: u8 = 0;
+/// 02, §5: "and 1 means broken only"
+pub const BROKEN_ONLY: u8 = 1;
 
 /// "A notice has a number, 1 to 65535, and one of three targets"
 #[derive(Clone, Copy, PartialEq, Eq, Debug)]
@@ -28,11 +39,12 @@ pub enum Target {
     Pattern { stage: u8, value: u16, mask: u16, set: u8 },
 }
 
-/// "A notice has a number, 1 to 65535, and one of three targets"
+/// "A notice has a number, 1 to 65535, and one of three targets"; 02, §5: "Each notice gets a class, 0 broken or 1 busy"
 #[derive(Clone, Copy, PartialEq, Eq, Debug)]
 pub struct Notice {
     pub number: u16,
     pub target: Target,
+    pub class: u8,
 }
 
 /// "a book of notices": the size n and the standing notices, kept by rising number.
@@ -50,12 +62,12 @@ pub struct Stopped {
     pub notice: u16,
 }
 
-/// "Action 1 files", "Action 2 withdraws", "Action 3 routes".
+/// "Action 1 files", "Action 2 withdraws", "Action 3 routes"; 02, §5: "a route may ask for all classes or broken only".
 #[derive(Clone, Copy, PartialEq, Eq, Debug)]
 pub enum Action {
     File(Notice),
     Withdraw(u16),
-    Route { source: u16, destination: u16 },
+    Route { source: u16, destination: u16, choice: u8 },
 }
 
 // ---------------------------------------------------------------------------------------------------------
@@ -325,6 +337,16 @@ fn has_a_bad_set_mask_or_value(n: u8, target: Target) -> bool {
     }
 }
 
+/// 02, §5: "a class above 1"
+fn is_no_class(class: u8) -> bool {
+    class > 1
+}
+
+/// 02, §5: "a route may ask for all classes or broken only": whether a notice of this class counts for such a route.
+fn counts(choice: u8, class: u8) -> bool {
+    choice == ALL || choice == BROKEN_ONLY && class == BROKEN
+}
+
 /// "A mask with fewer than two ones is too wide, so at n = 1 no pattern is accepted."
 fn is_too_wide(target: Target) -> bool {
     match target {
@@ -365,23 +387,28 @@ impl Book {
         self.notices.iter().any(|notice| notice.number == number)
     }
 
-    /// "Several may name one link." It is stopped while any standing notice names it.
-    fn stopped(&self, stage: u8, switch: u16, code: u8) -> bool {
-        self.notices.iter().any(|notice| names(self.n, notice.target, stage, switch, code))
+    /// 02, §5: the notices of which "stopped by a counted notice" speaks.
+    fn counted(&self, choice: u8) -> impl Iterator<Item = &Notice> {
+        self.notices.iter().filter(move |notice| counts(choice, notice.class))
+    }
+
+    /// "Several may name one link." 02, §5: it is "stopped by a counted notice" while any that stands and counts names it.
+    fn stopped(&self, choice: u8, stage: u8, switch: u16, code: u8) -> bool {
+        self.counted(choice).any(|notice| names(self.n, notice.target, stage, switch, code))
     }
 
     /// 02, §2: "the lowest number among the notices that stop the link, or clear"
-    fn lowest_that_stops(&self, stage: u8, switch: u16, code: u8) -> Option<u16> {
-        let stopping = self.notices.iter().filter(|notice| names(self.n, notice.target, stage, switch, code));
+    fn lowest_that_stops(&self, choice: u8, stage: u8, switch: u16, code: u8) -> Option<u16> {
+        let stopping = self.counted(choice).filter(|notice| names(self.n, notice.target, stage, switch, code));
         stopping.map(|notice| notice.number).min()
     }
 
     /// "the first stage whose link is stopped", if any, with 02, §2's "A walk passes that number on."; "A path is clear when none of its n
     /// links is stopped."
-    fn first_stopped(&self, source: u16, steps: &[u8]) -> Option<Stopped> {
+    fn first_stopped(&self, choice: u8, source: u16, steps: &[u8]) -> Option<Stopped> {
         let mut switch = source;
         for (stage, &code) in (0..self.n).zip(steps) {
-            if let Some(notice) = self.lowest_that_stops(stage, switch, code) {
+            if let Some(notice) = self.lowest_that_stops(choice, stage, switch, code) {
                 return Some(Stopped { stage, notice });
             }
             switch = far_end(self.n, stage, switch, code);
@@ -398,14 +425,14 @@ impl Book {
     /// column k disagrees in them ever after and arrives at none of the labels the sentence asks for.
     ///
     /// None where there is no such i; then a clear walk of n links arrives at d, which is a clear path.
-    fn stage_named(&self, source: u16, destination: u16) -> Option<u8> {
+    fn stage_named(&self, choice: u8, source: u16, destination: u16) -> Option<u8> {
         let mut reached = BTreeSet::from([source]);
         for stage in 0..self.n {
             let mut next = BTreeSet::new();
             for &switch in &reached {
                 for code in [STRAIGHT, PLUS, MINUS] {
                     let label = far_end(self.n, stage, switch, code);
-                    if !self.stopped(stage, switch, code) && agrees(label, destination, stage + 1) {
+                    if !self.stopped(choice, stage, switch, code) && agrees(label, destination, stage + 1) {
                         next.insert(label);
                     }
                 }
@@ -420,10 +447,10 @@ impl Book {
 
     /// 02, §2: "a switch reached clear": the labels at which clear walks of so many links from the source arrive, wherever they lead, over all
     /// three links of every switch.
-    fn reached_clear(&self, source: u16, links: u8) -> Vec<u16> {
+    fn reached_clear(&self, choice: u8, source: u16, links: u8) -> Vec<u16> {
         let mut reached = vec![source];
         for stage in 0..links {
-            let here: Vec<&Notice> = self.notices.iter().filter(|notice| stage_of(notice.target) == stage).collect();
+            let here: Vec<&Notice> = self.counted(choice).filter(|notice| stage_of(notice.target) == stage).collect();
             let mut arrives = vec![false; labels(self.n) as usize];
             for switch in reached {
                 for code in [STRAIGHT, PLUS, MINUS] {
@@ -439,9 +466,9 @@ impl Book {
 
     /// 02, §2: "any way onward toward the destination from a switch reached clear at the named stage", as its switch and its code. Toward
     /// the destination leads a link of stage i whose far end "agrees with d in its low i+1 bits".
-    pub fn ways_onward(&self, source: u16, destination: u16, stage: u8) -> Vec<(u16, u8)> {
+    pub fn ways_onward(&self, choice: u8, source: u16, destination: u16, stage: u8) -> Vec<(u16, u8)> {
         let mut ways = Vec::new();
-        for switch in self.reached_clear(source, stage) {
+        for switch in self.reached_clear(choice, source, stage) {
             for code in [STRAIGHT, PLUS, MINUS] {
                 if agrees(far_end(self.n, stage, switch, code), destination, stage + 1) {
                     ways.push((switch, code));
@@ -452,17 +479,18 @@ impl Book {
     }
 
     /// 02, §2: "A route with no clear path also names the lowest number that stops any way onward toward the destination from a switch
-    /// reached clear at the named stage."
+    /// reached clear at the named stage." 02, §5: "the number after `BY` now read 'stopped by a counted notice'"
     ///
     /// There is such a way, and each is stopped: otherwise another stage would have been named.
-    fn notice_named(&self, source: u16, destination: u16, stage: u8) -> u16 {
-        let ways = self.ways_onward(source, destination, stage);
+    fn notice_named(&self, choice: u8, source: u16, destination: u16, stage: u8) -> u16 {
+        let ways = self.ways_onward(choice, source, destination, stage);
         let stops_a_way = |target: Target| ways.iter().any(|&(switch, code)| names(self.n, target, stage, switch, code));
-        let stopping = self.notices.iter().filter(|notice| stops_a_way(notice.target));
+        let stopping = self.counted(choice).filter(|notice| stops_a_way(notice.target));
         stopping.map(|notice| notice.number).min().expect("a notice stops a way onward")
     }
 
-    /// "file: 16, 3, 4, 5, 6, 7, 8." "a change that was refused hands the book back as given."
+    /// "file: 16, 3, 4, 5, 6, 7, 8." "a change that was refused hands the book back as given." 02, §5: a class above 1 "is 5, for a filing
+    /// where 5 stands now".
     pub fn file(&mut self, notice: Notice) -> u8 {
         if self.cannot_be_produced() {
             return 16;
@@ -473,7 +501,7 @@ impl Book {
         if is_outside_the_fabric(self.n, notice.target) {
             return 4;
         }
-        if has_a_bad_set_mask_or_value(self.n, notice.target) {
+        if has_a_bad_set_mask_or_value(self.n, notice.target) || is_no_class(notice.class) {
             return 5;
         }
         if is_too_wide(notice.target) {
@@ -506,7 +534,7 @@ impl Book {
     }
 
     /// "link stopped or not: 16, 4, 12." 02, §2: "The link test should answer with the lowest number among the notices that stop the link, or
-    /// clear."
+    /// clear." 02, §5: "The link test and the walk count all notices."
     pub fn link(&self, stage: u8, switch: u16, code: u8) -> Result<Option<u16>, u8> {
         if self.cannot_be_produced() {
             return Err(16);
@@ -517,28 +545,32 @@ impl Book {
         if code > 2 {
             return Err(12);
         }
-        Ok(self.lowest_that_stops(stage, switch, code))
+        Ok(self.lowest_that_stops(ALL, stage, switch, code))
     }
 
     /// "route: 16, 10, 11." "Among clear paths from s to d, the first is found so: where two paths first part, the
-    /// one whose state bit there is 0 comes first. The route answer is that path's normal tag."
-    pub fn route(&self, source: u16, destination: u16) -> Result<u32, (u8, Option<Stopped>)> {
+    /// one whose state bit there is 0 comes first. The route answer is that path's normal tag." 02, §5: a choice above 1 "is 5", "for a route
+    /// between 10 and 11".
+    pub fn route(&self, source: u16, destination: u16, choice: u8) -> Result<u32, (u8, Option<Stopped>)> {
         if self.cannot_be_produced() {
             return Err((16, None));
         }
         if !is_label(self.n, source) || !is_label(self.n, destination) {
             return Err((10, None));
         }
+        if is_no_class(choice) {
+            return Err((5, None));
+        }
         for steps in paths(self.n, source, destination) {
-            if self.first_stopped(source, &steps).is_none() {
+            if self.first_stopped(choice, source, &steps).is_none() {
                 return Ok(normal_tag(self.n, source, &steps));
             }
         }
-        let named = |stage| Stopped { stage, notice: self.notice_named(source, destination, stage) };
-        Err((11, self.stage_named(source, destination).map(named)))
+        let named = |stage| Stopped { stage, notice: self.notice_named(choice, source, destination, stage) };
+        Err((11, self.stage_named(choice, source, destination).map(named)))
     }
 
-    /// "walk (book, source, tag): 16, 10, 12, 11, 17; otherwise clear."
+    /// "walk (book, source, tag): 16, 10, 12, 11, 17; otherwise clear." 02, §5: "The link test and the walk count all notices."
     pub fn walk(&self, source: u16, tag: u32) -> Result<(), (u8, Option<Stopped>)> {
         if self.cannot_be_produced() {
             return Err((16, None));
@@ -550,7 +582,7 @@ impl Book {
             return Err((12, None));
         }
         let steps = steps_of(self.n, source, tag);
-        if let Some(stopped) = self.first_stopped(source, &steps) {
+        if let Some(stopped) = self.first_stopped(ALL, source, &steps) {
             return Err((11, Some(stopped)));
         }
         if arrival(self.n, source, &steps) != destination_of(self.n, tag) {
@@ -560,27 +592,34 @@ impl Book {
     }
 
     /// "listing: 16, 13. Standing notices by rising number, ten bytes each as filing actions, at the front; the rest
-    /// stays. It answers how many there are."
+    /// stays. It answers how many there are." 02, §5: "The listing writes eleven bytes each, class last."
     pub fn listing(&self, memory: &mut [u8]) -> Result<usize, u8> {
         if self.cannot_be_produced() {
             return Err(16);
         }
-        if memory.len() < ACTION_LENGTH * self.notices.len() {
+        if memory.len() < CLASSED_LENGTH * self.notices.len() {
             return Err(13);
         }
-        for (place, notice) in memory.chunks_exact_mut(ACTION_LENGTH).zip(&self.notices) {
+        for (place, notice) in memory.chunks_exact_mut(CLASSED_LENGTH).zip(&self.notices) {
             place.copy_from_slice(&filing_action(*notice));
         }
         Ok(self.notices.len())
     }
 
+    /// 02, §5: "§1 writes version 2 when any busy notice stands"
+    fn version_written(&self) -> u16 {
+        if self.notices.iter().any(|notice| notice.class == BUSY) { 2 } else { 1 }
+    }
+
     /// 02, §1: "Write a version 1 sheet from a book: a header and one filing per standing notice, by rising number."
     pub fn sheet(&self) -> Vec<u8> {
-        let mut sheet = b"FSH\0\x01".to_vec();
+        let version = self.version_written();
+        let mut sheet = b"FSH".to_vec();
+        sheet.extend(version.to_be_bytes());
         sheet.push(self.n);
         sheet.extend((self.notices.len() as u16).to_be_bytes());
         for notice in &self.notices {
-            sheet.extend(filing_action(*notice));
+            sheet.extend(&filing_action(*notice)[..action_length(version)]);
         }
         sheet
     }
@@ -610,10 +649,15 @@ fn two_bytes(high: u8, low: u8) -> u16 {
     u16::from_be_bytes([high, low])
 }
 
-/// "action 8 bits, number 16, kind 8, stage 8, switch 16, mask 16, set 8"; "Action 1 files; the kind is the target's
+/// 02, §5: "Where 01 says ten, such a sheet has eleven".
+fn action_length(version: u16) -> usize {
+    if version == 2 { CLASSED_LENGTH } else { ACTION_LENGTH }
+}
+
+/// "action 8 bits, number 16, kind 8, stage 8, switch 16, mask 16, set 8", and by 02, §5 "class last"; "Action 1 files; the kind is the target's
 /// number above (kind 1: mask zero; kind 2: stage holds the column, mask and set zero; kind 3: switch holds the
 /// value)."
-fn filing_action(notice: Notice) -> [u8; ACTION_LENGTH] {
+fn filing_action(notice: Notice) -> [u8; CLASSED_LENGTH] {
     let (kind, stage, switch, mask, set) = match notice.target {
         Target::Links { stage, switch, set } => (1, stage, switch, 0, set),
         Target::Switch { column, switch } => (2, column, switch, 0, 0),
@@ -622,13 +666,17 @@ fn filing_action(notice: Notice) -> [u8; ACTION_LENGTH] {
     let number = notice.number.to_be_bytes();
     let switch = switch.to_be_bytes();
     let mask = mask.to_be_bytes();
-    [1, number[0], number[1], kind, stage, switch[0], switch[1], mask[0], mask[1], set]
+    [1, number[0], number[1], kind, stage, switch[0], switch[1], mask[0], mask[1], set, notice.class]
 }
 
 /// "sheet header: 14, 1, 15; otherwise it answers n and the count." "Length is exactly 8 + 10 x count; count 0 is
-/// allowed."
-pub fn header(sheet: &[u8]) -> Result<(u8, u16), u8> {
-    if sheet.len() < HEADER_LENGTH || sheet[..3] != *b"FSH" || two_bytes(sheet[3], sheet[4]) != 1 {
+/// allowed." 02, §5: "The sheet goes to version 2"; "Version 1 sheets still read". The version is answered too, after the count.
+pub fn header(sheet: &[u8]) -> Result<(u8, u16, u16), u8> {
+    if sheet.len() < HEADER_LENGTH || sheet[..3] != *b"FSH" {
+        return Err(14);
+    }
+    let version = two_bytes(sheet[3], sheet[4]);
+    if version != 1 && version != 2 {
         return Err(14);
     }
     let n = sheet[5];
@@ -636,16 +684,16 @@ pub fn header(sheet: &[u8]) -> Result<(u8, u16), u8> {
         return Err(1);
     }
     let count = two_bytes(sheet[6], sheet[7]);
-    if count > MOST_ACTIONS || sheet.len() != HEADER_LENGTH + ACTION_LENGTH * usize::from(count) {
+    if count > MOST_ACTIONS || sheet.len() != HEADER_LENGTH + action_length(version) * usize::from(count) {
         return Err(15);
     }
-    Ok((n, count))
+    Ok((n, count, version))
 }
 
 /// "For a sheet and k, counted from 0, one entry says whether the action is there: a bad header gives the header's
 /// number, k not below the count gives 13."
 pub fn has_action(sheet: &[u8], k: usize) -> Result<(), u8> {
-    let (_, count) = header(sheet)?;
+    let (_, count, _) = header(sheet)?;
     if k >= usize::from(count) {
         return Err(13);
     }
@@ -653,22 +701,36 @@ pub fn has_action(sheet: &[u8], k: usize) -> Result<(), u8> {
 }
 
 /// "A second entry returns a part only: where the first accepts, action k is handed back as those ten bytes of the
-/// sheet themselves; otherwise the empty part at the sheet's front."
+/// sheet themselves; otherwise the empty part at the sheet's front." 02, §5: "Where 01 says ten, such a sheet has eleven".
 pub fn action_part(sheet: &[u8], k: usize) -> &[u8] {
-    if has_action(sheet, k).is_err() {
-        return &sheet[..0];
+    match (header(sheet), has_action(sheet, k)) {
+        (Ok((_, _, version)), Ok(())) => {
+            let start = HEADER_LENGTH + action_length(version) * k;
+            &sheet[start..start + action_length(version)]
+        }
+        _ => &sheet[..0],
     }
-    let start = HEADER_LENGTH + ACTION_LENGTH * k;
-    &sheet[start..start + ACTION_LENGTH]
+}
+
+/// 02, §5: "the action reader takes both lengths": a part without its class, and the class. "Version 1 sheets still read, every notice broken and
+/// every route over all."
+fn without_class(part: &[u8]) -> Result<(&[u8], u8), u8> {
+    match part.len() {
+        ACTION_LENGTH => Ok((part, 0)),
+        CLASSED_LENGTH => Ok((&part[..ACTION_LENGTH], part[ACTION_LENGTH])),
+        _ => Err(13),
+    }
 }
 
 /// "action reader (a part): 13, 2; otherwise the action with its fields." 2 is "unknown action or kind, or a spare
 /// field not zero (bytes only)": "Action 1 files; the kind is the target's number above (kind 1: mask zero; kind 2:
 /// stage holds the column, mask and set zero; kind 3: switch holds the value). Action 2 withdraws; only the number is
-/// used, all else zero. Action 3 routes; switch is the source, mask the destination, all else zero."
+/// used, all else zero. Action 3 routes; switch is the source, mask the destination, all else zero." 02, §5: "a class above 1, or not zero on a
+/// withdrawal, is 2 in bytes".
 pub fn read_action(part: &[u8]) -> Result<Action, u8> {
-    if part.len() != ACTION_LENGTH {
-        return Err(13);
+    let (part, class) = without_class(part)?;
+    if is_no_class(class) {
+        return Err(2);
     }
     let action = part[0];
     let number = two_bytes(part[1], part[2]);
@@ -685,11 +747,11 @@ pub fn read_action(part: &[u8]) -> Result<Action, u8> {
                 3 => Target::Pattern { stage, value: switch, mask, set },
                 _ => return Err(2),
             };
-            Ok(Action::File(Notice { number, target }))
+            Ok(Action::File(Notice { number, target, class }))
         }
-        2 if kind == 0 && stage == 0 && switch == 0 && mask == 0 && set == 0 => Ok(Action::Withdraw(number)),
+        2 if kind == 0 && stage == 0 && switch == 0 && mask == 0 && set == 0 && class == 0 => Ok(Action::Withdraw(number)),
         3 if number == 0 && kind == 0 && stage == 0 && set == 0 => {
-            Ok(Action::Route { source: switch, destination: mask })
+            Ok(Action::Route { source: switch, destination: mask, choice: class })
         }
         _ => Err(2),
     }
@@ -703,7 +765,7 @@ pub fn read_action(part: &[u8]) -> Result<Action, u8> {
 
 /// The book that a sheet's actions make, "starting from an empty book"; the header's number where it is refused.
 pub fn book_of(sheet: &[u8]) -> Result<Book, u8> {
-    let (n, count) = header(sheet)?;
+    let (n, count, _) = header(sheet)?;
     let (mut book, _) = open(n);
     for k in 0..usize::from(count) {
         match read_action(action_part(sheet, k)) {
@@ -778,8 +840,8 @@ fn line_of_action(book: &mut Book, part: &[u8]) -> String {
         Err(number) => format!("ACTION REFUSED {number}"),
         Ok(Action::File(notice)) => format!("FILE {} {}", notice.number, ok_or_refused(book.file(notice))),
         Ok(Action::Withdraw(number)) => format!("WITHDRAW {number} {}", ok_or_refused(book.withdraw(number))),
-        Ok(Action::Route { source, destination }) => {
-            let answer = tag_none_or_refused(book.size(), book.route(source, destination));
+        Ok(Action::Route { source, destination, choice }) => {
+            let answer = tag_none_or_refused(book.size(), book.route(source, destination, choice));
             format!("ROUTE {source} {destination} {answer}")
         }
     }
@@ -788,7 +850,7 @@ fn line_of_action(book: &mut Book, part: &[u8]) -> String {
 /// "The program reads a sheet on standard input, starting from an empty book. First line: `SHEET n count`, or only
 /// `SHEET REFUSED k`. Then a line per action, LF at each end."
 pub fn run(sheet: &[u8]) -> Vec<u8> {
-    let (n, count) = match header(sheet) {
+    let (n, count, _) = match header(sheet) {
         Err(number) => return format!("SHEET REFUSED {number}\n").into_bytes(),
         Ok(answer) => answer,
     };

@@ -1,11 +1,12 @@
 //! Books of notices that overlap, for what document 02's §2 asks: many of them name links between one source and one destination, most of these at
 //! one stage, so that often no path is clear and several notices could be named. They are filed in no order of their numbers, and some are
-//! withdrawn. Then the notice that was named is withdrawn and the question asked again, until a path is clear.
+//! withdrawn. Then the notice that was named is withdrawn and the question asked again, until a path is clear. Some notices are busy, and some routes
+//! count the broken ones only (§5).
 
 use crate::compared::Compared;
 use crate::draw::Draw;
 use crate::entries::{link, route, routes, run, walk};
-use crate::model::{self, book_of, names, Book, Notice, Stopped, Target};
+use crate::model::{self, book_of, names, Book, Notice, Stopped, Target, ALL, BROKEN, BROKEN_ONLY};
 use crate::rows::{filing, question, sheet_of, withdrawal, Row};
 
 /// A size, and the source and the destination between which the notices lie.
@@ -40,21 +41,23 @@ impl Between {
         Target::Switch { column, switch }
     }
 
-    /// Filings and withdrawals; a number that was withdrawn is sometimes filed again with another target.
+    /// Filings and withdrawals; a number that was withdrawn is sometimes filed again with another target and class. All notices of some books are
+    /// broken.
     fn changes(&self, draw: &mut Draw) -> Vec<Row> {
         let count = 1 + draw.below(44) as usize;
+        let classes = 1 + draw.below(2);
         let mut rows = Vec::new();
         let mut withdrawn = Vec::new();
         for number in draw.numbers(count) {
             let target = if draw.one_in(8) { self.before(draw) } else { self.target(draw) };
-            rows.push(filing(Notice { number, target }));
+            rows.push(filing(Notice { number, target, class: draw.below(classes) as u8 }));
             if draw.one_in(8) {
                 rows.push(withdrawal(number));
                 withdrawn.push(number);
             }
             if draw.one_in(4) {
-                let again = withdrawn.pop().map(|number| filing(Notice { number, target: self.target(draw) }));
-                rows.extend(again);
+                let again = |number| Notice { number, target: self.target(draw), class: draw.below(classes) as u8 };
+                rows.extend(withdrawn.pop().map(again).map(filing));
             }
         }
         rows
@@ -81,22 +84,22 @@ pub fn sheet(draw: &mut Draw) -> Vec<u8> {
         rows.push(row);
         if draw.one_in(3) {
             let (source, destination) = between.pair(draw);
-            rows.push(question(source, destination));
+            rows.push(question(source, destination, draw.below(2) as u8));
         }
     }
-    sheet_of(between.n, &rows)
+    sheet_of(2, between.n, &rows)
 }
 
 pub fn random(compared: &mut Compared, draw: &mut Draw) {
     let between = Between::drawn(draw);
     let n = between.n;
     let rows = between.changes(draw);
-    let made = sheet_of(n, &rows);
+    let made = sheet_of(2, n, &rows);
     let book = book_of(&made);
     let mut pairs = Vec::new();
     for _ in 0..6 {
         let (source, destination) = between.pair(draw);
-        asked(compared, n, &rows, source, destination);
+        asked(compared, n, &rows, (source, destination), draw.below(2) as u8);
         pairs.extend([source, destination]);
         let tag = u32::from(destination) | draw.below(1 << n) << n;
         walk(compared, &made, &book, source, tag);
@@ -104,33 +107,59 @@ pub fn random(compared: &mut Compared, draw: &mut Draw) {
         let tested = draw.link_between(n, source, destination, stage);
         link(compared, &made, &book, stage, tested.switch, tested.code);
     }
-    routes(compared, &made, &book, &pairs, pairs.len() / 2);
-    withdrawn_until_clear(compared, &between, rows);
+    routes(compared, &made, &book, draw.below(2) as u8, &pairs, pairs.len() / 2);
+    withdrawn_until_clear(compared, &between, rows, draw.below(2) as u8);
     let printed = sheet(draw);
-    run(compared, &printed, 24 + 48 * (printed.len() / 10));
+    run(compared, &printed, 24 + 48 * (printed.len() / 11));
 }
 
 /// A route over the book that the rows make, and what else its answer might have been.
-fn asked(compared: &mut Compared, n: u8, rows: &[Row], source: u16, destination: u16) -> Option<Stopped> {
-    let sheet = sheet_of(n, rows);
+fn asked(compared: &mut Compared, n: u8, rows: &[Row], pair: (u16, u16), choice: u8) -> Option<Stopped> {
+    let sheet = sheet_of(2, n, rows);
     let book = book_of(&sheet);
-    let named = route(compared, &sheet, &book, source, destination)?;
-    temptations(compared, &book.ok()?, rows, source, destination, named);
-    Some(named)
+    let named = route(compared, &sheet, &book, pair, choice);
+    let mut counted = book.ok()?;
+    if choice == BROKEN_ONLY {
+        busy_tempts(compared, &counted, pair, named);
+        counted = broken_alone(&counted);
+    }
+    temptations(compared, &counted, rows, pair, named?);
+    named
 }
 
 /// The notice that is named is withdrawn, and the next one named, until a path is clear.
-fn withdrawn_until_clear(compared: &mut Compared, between: &Between, mut rows: Vec<Row>) {
-    while let Some(stopped) = asked(compared, between.n, &rows, between.source, between.destination) {
+fn withdrawn_until_clear(compared: &mut Compared, between: &Between, mut rows: Vec<Row>, choice: u8) {
+    while let Some(stopped) = asked(compared, between.n, &rows, (between.source, between.destination), choice) {
         rows.push(withdrawal(stopped.notice));
     }
 }
 
-/// Counts, for a route with no clear path, what would tempt to another number than the one named.
-fn temptations(compared: &mut Compared, book: &Book, rows: &[Row], source: u16, destination: u16, named: Stopped) {
+/// The book of those notices that are broken.
+pub fn broken_alone(book: &Book) -> Book {
+    let (mut alone, _) = model::open(book.size());
+    for notice in book.standing().into_iter().filter(|notice| notice.class == BROKEN) {
+        alone.file(notice);
+    }
+    alone
+}
+
+/// Counts, for a route over the broken notices only, where the busy ones would change its answer.
+fn busy_tempts(compared: &mut Compared, book: &Book, (source, destination): (u16, u16), named: Option<Stopped>) {
+    let over_all = book.route(source, destination, ALL);
+    match (named, over_all) {
+        (None, Err(_)) => compared.tempts("over broken notices only, a path is clear, and none over all"),
+        (None, Ok(tag)) if book.route(source, destination, BROKEN_ONLY) != Ok(tag) => compared.tempts("over broken notices only, another path"),
+        (Some(broken), Err((_, Some(all)))) if broken.stage != all.stage => compared.tempts("over broken notices only, another stage"),
+        (Some(broken), Err((_, Some(all)))) if broken != all => compared.tempts("over broken notices only, another notice at the same stage"),
+        _ => {}
+    }
+}
+
+/// Counts, for a route with no clear path, what would tempt to another number than the one named. All notices of the book count for it.
+fn temptations(compared: &mut Compared, book: &Book, rows: &[Row], (source, destination): (u16, u16), named: Stopped) {
     let Stopped { stage, notice } = named;
     let n = book.size();
-    let ways = book.ways_onward(source, destination, stage);
+    let ways = book.ways_onward(ALL, source, destination, stage);
     compared.tempts("no clear path, over notices that overlap");
     if stage == n - 1 {
         compared.tempts("no clear path, at the last stage");

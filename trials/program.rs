@@ -94,7 +94,7 @@ impl Program {
     /// Where not all can be written, the same on standard error.
     pub fn unwritable_outputs(&self, compared: &mut Compared) {
         let complaint = |cause: &str| format!("{}: {cause}\n", self.unwritten);
-        let sheet = sheet_of(3, &[]);
+        let sheet = sheet_of(1, 3, &[]);
         let device = File::create("/dev/full").expect("the full device opens");
         let mut by_device = start(self.command().stdin(Stdio::piped()).stdout(device));
         feed(&mut by_device, sheet.clone(), 8).join().expect("the input was written");

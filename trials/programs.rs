@@ -43,10 +43,10 @@ pub fn all(compared: &mut Compared, draw: &mut Draw) {
 
 /// Whole sheets, damaged ones, cut ones, and more than any sheet holds.
 fn small_input(draw: &mut Draw, k: u32) -> Vec<u8> {
-    let n = draw.size();
+    let (version, n) = (draw.version(), draw.size());
     let near = draw.near(n);
     let count = [3, 0, 60, 12][k as usize % 4];
-    let mut sheet = sheet_of(n, &draw.rows(n, &near, count));
+    let mut sheet = sheet_of(version, n, &draw.rows(version, n, &near, count));
     match k % 8 {
         1 => sheet.truncate(draw.below(9) as usize),
         3 => sheet[draw.below(8) as usize] ^= 1,
@@ -56,12 +56,18 @@ fn small_input(draw: &mut Draw, k: u32) -> Vec<u8> {
     sheet
 }
 
-/// Sheets up to the longest and one byte and one action beyond it. No two actions of a sheet are the same.
+/// Sheets of both versions up to the longest of each and one byte and one action beyond it. No two actions of a sheet are the same.
 fn large_inputs(draw: &mut Draw) -> Vec<Vec<u8>> {
-    let mut sheets: Vec<Vec<u8>> = [61, 255, 256, 257, 4095, 4096, 4097].map(|count| sheet_of(5, &draw.different_rows(5, count))).into();
-    let mut byte_more = sheets[5].clone();
-    byte_more.push(0);
-    sheets.push(byte_more);
+    let first = [61, 255, 256, 257, 4095, 4096, 4097].map(|count| (1, count));
+    let second = [256, 4095, 4096, 4097].map(|count| (2, count));
+    let mut sheets = Vec::new();
+    for (version, count) in first.into_iter().chain(second) {
+        let sheet = sheet_of(version, 5, &draw.different_rows(version, 5, count));
+        if count == 4096 {
+            sheets.push([&sheet[..], &[0]].concat());
+        }
+        sheets.push(sheet);
+    }
     sheets
 }
 

@@ -1,9 +1,10 @@
-//! Trials of the proved controller against the model: every entry of document 01 and of document 02's §1 to §3, through the static library of
+//! Trials of the proved controller against the model: every entry of document 01 and of document 02's §1 to §5, through the static library of
 //! the crate `face`, and the programs themselves, through standard input. A disagreement ends the run and prints the case in full.
 //!
 //!     trials [ROUNDS [SEED]]     ROUNDS random cases of each kind; 400 and a fixed seed where none are given
 
 mod cases;
+mod classes;
 mod compared;
 mod draw;
 mod entries;
@@ -37,6 +38,7 @@ fn main() {
     ranges::all(&mut compared, &mut draw);
     cases::smallest_fabrics(&mut compared);
     cases::orders_of_numbers(&mut compared);
+    classes::all(&mut compared, &mut draw);
     cases::large_sheets(&mut compared, &mut draw);
     written::every_count(&mut compared, &mut draw);
     life::longest(&mut compared, &mut draw);
@@ -48,6 +50,7 @@ fn main() {
         cases::full_book(&mut compared, &mut draw);
         written::after_a_run(&mut compared, &mut draw);
         life::random(&mut compared, &mut draw);
+        classes::random(&mut compared, &mut draw);
         (0..6).for_each(|_| overlaps::random(&mut compared, &mut draw));
     }
     programs::all(&mut compared, &mut draw);

@@ -1,11 +1,11 @@
-// Document 01, 'The sheet and what is printed': a notice as a filing action of ten bytes.
+// Document 01, 'The sheet and what is printed': a notice as a filing action, class last (document 02, §5).
 use actions::ACTION_LENGTH;
 use notices::Notice;
 use notices::Target;
 ghost use mathlib.Core.Path.{_≡_};
 ghost use Rattle.actions.specs.Layout.{actionBytes, filing};
 
-// The ten bytes of an action.
+// The eleven bytes of an action.
 fn action_bytes(
     action: u8,
     number: u16,
@@ -14,8 +14,9 @@ fn action_bytes(
     switch: u16,
     mask: u16,
     set: u8,
+    class: u8,
 ) -> [u8; ACTION_LENGTH]
-    ensures { λ r. ⌜ r ≡ actionBytes action number kind stage switch mask set ⌝ }
+    ensures { λ r. ⌜ r ≡ actionBytes action number kind stage switch mask set class ⌝ }
 {
     [
         action,
@@ -28,6 +29,7 @@ fn action_bytes(
         (mask / 256) as u8,
         (mask % 256) as u8,
         set,
+        class,
     ]
 }
 
@@ -37,13 +39,17 @@ pub fn filing(x: Notice) -> [u8; ACTION_LENGTH]
 {
     let t = x.target;
     match t {
-        Target::Links { stage, switch, set } => action_bytes(1, x.number, 1, stage, switch, 0, set),
-        Target::Switch { column, switch } => action_bytes(1, x.number, 2, column, switch, 0, 0),
+        Target::Links { stage, switch, set } => {
+            action_bytes(1, x.number, 1, stage, switch, 0, set, x.class)
+        }
+        Target::Switch { column, switch } => {
+            action_bytes(1, x.number, 2, column, switch, 0, 0, x.class)
+        }
         Target::Pattern {
             stage,
             value,
             mask,
             set,
-        } => action_bytes(1, x.number, 3, stage, value, mask, set),
+        } => action_bytes(1, x.number, 3, stage, value, mask, set, x.class),
     }
 }

@@ -1,24 +1,26 @@
-// From ten bytes to the action.
+// From ten bytes, or eleven, to the action.
+use crate::class_of;
 use crate::word_at;
 use actions::ACTION_LENGTH;
 use actions::Action;
 use actions::Fields;
+use actions::TEN;
 use notices::Notice;
 use notices::Target;
 use table::Refusal;
 ghost use mathlib.Core.Path.{_≡_};
 ghost use mathlib.Core.Bool.{false};
+ghost use Prim.Native.Nat.{_≤_};
 ghost use lib.ListN.{length};
 ghost use Rattle.table.specs.Reply.{Reply};
-ghost use Rattle.actions.specs.Layout.{actionLength};
-ghost use Rattle.actions.specs.Format.{fieldsOf, fieldBytes, filingFault, withdrawingFault, routingFault, layoutFault};
-ghost use Rattle.actions.specs.Entries.{actionSays, ReadsAction};
+ghost use Rattle.actions.specs.Format.{fieldsOf, withClass, fieldBytes, kindFault, filingFault, withdrawingFault, routingFault, layoutFault};
+ghost use Rattle.actions.specs.Entries.{noPart, actionSays, ReadsAction};
 
 // "action reader (a part): 13, 2; otherwise the action with its fields."
 pub fn read_action(part: &[u8]) -> Action
     ensures { λ r. ⌜ ReadsAction (now (part .entry)) r ⌝ }
 {
-    if part.len() != ACTION_LENGTH {
+    if no_part(part) {
         return Action::Refused(Refusal::Room);
     }
     let f = fields(part);
@@ -28,10 +30,17 @@ pub fn read_action(part: &[u8]) -> Action
     asked(f)
 }
 
+// 13: "the action reader takes both lengths"
+fn no_part(part: &[u8]) -> bool
+    ensures { λ r. ⌜ (r ≡ noPart (now (part .entry))) × (r ≡ false → (10 ≤ length (now (part .entry))) × (length (now (part .entry)) ≤ 11)) ⌝ }
+{
+    table::both(part.len() != TEN, part.len() != ACTION_LENGTH)
+}
+
 // The fields of a part.
 fn fields(part: &[u8]) -> Fields
-    requires { ⌜ length (now part) ≡ actionLength ⌝ }
-    ensures { λ r. ⌜ (r ≡ fieldsOf (now (part .entry))) × (fieldBytes r ≡ now (part .entry)) ⌝ }
+    requires { ⌜ (10 ≤ length (now part)) × (length (now part) ≤ 11) ⌝ }
+    ensures { λ r. ⌜ (r ≡ fieldsOf (now (part .entry))) × (fieldBytes r ≡ withClass (now (part .entry))) ⌝ }
 {
     Fields {
         action: part[0],
@@ -41,6 +50,7 @@ fn fields(part: &[u8]) -> Fields
         switch: word_at(part, 5),
         mask: word_at(part, 7),
         set: part[9],
+        class: class_of(part),
     }
 }
 
@@ -60,8 +70,8 @@ fn layout_fault(f: Fields) -> bool
     true
 }
 
-fn filing_fault(f: Fields) -> bool
-    ensures { λ r. ⌜ r ≡ filingFault f ⌝ }
+fn kind_fault(f: Fields) -> bool
+    ensures { λ r. ⌜ r ≡ kindFault f ⌝ }
 {
     if f.kind == 1 {
         return f.mask != 0;
@@ -72,20 +82,29 @@ fn filing_fault(f: Fields) -> bool
     f.kind != 3
 }
 
+// "a class above 1, or not zero on a withdrawal, is 2 in bytes"
+fn filing_fault(f: Fields) -> bool
+    ensures { λ r. ⌜ r ≡ filingFault f ⌝ }
+{
+    table::either(kind_fault(f), 1 < f.class)
+}
+
 fn withdrawing_fault(f: Fields) -> bool
     ensures { λ r. ⌜ r ≡ withdrawingFault f ⌝ }
 {
     let fabric = table::either(f.kind != 0, table::either(f.stage != 0, f.switch != 0));
-    table::either(fabric, table::either(f.mask != 0, f.set != 0))
+    let rest = table::either(f.mask != 0, table::either(f.set != 0, f.class != 0));
+    table::either(fabric, rest)
 }
 
 fn routing_fault(f: Fields) -> bool
     ensures { λ r. ⌜ r ≡ routingFault f ⌝ }
 {
-    table::either(
+    let spare = table::either(
         table::either(f.number != 0, f.kind != 0),
         table::either(f.stage != 0, f.set != 0),
-    )
+    );
+    table::either(spare, 1 < f.class)
 }
 
 // The action that has these fields.
@@ -102,12 +121,13 @@ fn asked(f: Fields) -> Action
     Action::Route {
         source: f.switch,
         destination: f.mask,
+        choice: f.class,
     }
 }
 
 // The filing action that has these fields.
 fn filed(f: Fields) -> Action
-    requires { ⌜ (f .action ≡ 1) × (filingFault f ≡ false) ⌝ }
+    requires { ⌜ (f .action ≡ 1) × (kindFault f ≡ false) ⌝ }
     ensures { λ r. ⌜ actionSays r ≡ Reply.accepted (fieldBytes f) ⌝ }
 {
     if f.kind == 1 {
@@ -130,6 +150,7 @@ fn links(f: Fields) -> Action
             switch: f.switch,
             set: f.set,
         },
+        class: f.class,
     })
 }
 
@@ -143,6 +164,7 @@ fn switch(f: Fields) -> Action
             column: f.stage,
             switch: f.switch,
         },
+        class: f.class,
     })
 }
 
@@ -158,5 +180,6 @@ fn pattern(f: Fields) -> Action
             mask: f.mask,
             set: f.set,
         },
+        class: f.class,
     })
 }

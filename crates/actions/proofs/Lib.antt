@@ -1,4 +1,4 @@
--- the ten bytes of a filing action, and the rows of a listing
+-- the bytes of a filing action, and rows of them
 pub mod Laid
 pub mod Listings
 -- what the definitions say

@@ -8,11 +8,12 @@ use Rattle.table.specs.Reply.{Reply.accepted, refused}
 use Rattle.table.specs.Checks.{Given, Passed}
 use Rattle.table.proofs.Checks.{given-refuses, passed-accepts}
 use Rattle.actions.specs.declared.Action.{Action}
+use Rattle.actions.specs.Format.{withClass}
 use Rattle.actions.specs.Entries.{actionSays, actionChecks, ReadsAction}
 
 module _ {part : List ℕ} where
   pub action-refuses : {why : Refusal} → Given (numberOf why) (actionChecks part) → ReadsAction part (Action.Refused why)
-  action-refuses {why} g = record { says = sym (given-refuses refused (accepted part) (numberOf why) (actionChecks part) g) }
+  action-refuses {why} g = record { says = sym (given-refuses refused (accepted (withClass part)) (numberOf why) (actionChecks part) g) }
 
-  pub action-accepts : {a : Action} → Passed (actionChecks part) → actionSays a ≡ accepted part → ReadsAction part a
-  action-accepts {a} p e = record { says = e ∙ sym (passed-accepts refused (accepted part) (actionChecks part) p) }
+  pub action-accepts : {a : Action} → Passed (actionChecks part) → actionSays a ≡ accepted (withClass part) → ReadsAction part a
+  action-accepts {a} p e = record { says = e ∙ sym (passed-accepts refused (accepted (withClass part)) (actionChecks part) p) }

@@ -1,4 +1,4 @@
-// Document 01, 'Numbers handed back', and document 02, §2 and §4: what a book is asked: link stopped or not, and listing.
+// Document 01, 'Numbers handed back', and document 02, §2, §4 and §5: what a book is asked: link stopped or not, and listing.
 mod pass; // pass.rt: the link test in one pass over the notices
 mod three; // three.rt: the three links of a switch in one pass
 
@@ -86,7 +86,7 @@ fn answer(lowest: u16) -> Link
     Link::Stopped(lowest)
 }
 
-// "listing: 16, 13."
+// "listing: 16, 13.", "eleven bytes each, class last"
 pub fn listing(book: Book, memory: &mut [u8]) -> Listing
     ensures { λ r. ⌜ Lists book (now (memory .entry)) (now (memory .exit)) r ⌝ }
 {
@@ -106,6 +106,6 @@ pub fn listed(book: Book, memory: &mut [u8]) -> Listing
         return Listing::Refused(Refusal::Room);
     }
     let notices = book.notices;
-    places::laid(notices, count, memory);
+    places::laid(notices, count, ACTION_LENGTH, memory);
     Listing::Listed(count)
 }

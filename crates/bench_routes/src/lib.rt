@@ -18,34 +18,39 @@ pub extern "C" fn bench_standing(sheet: &[u8]) -> usize {
 
 // The entry `route`, which judges the book for each pair. Refused where there is not room for one answer a pair; then nothing is written.
 #[no_mangle]
-pub extern "C" fn bench_routes(sheet: &[u8], pairs: &[u16], answers: &mut [u64]) -> bool
+pub extern "C" fn bench_routes(sheet: &[u8], choice: u8, pairs: &[u16], answers: &mut [u64]) -> bool
     ensures { λ r. ⌜ (r ≡ false → now (answers .exit) ≡ now (answers .entry)) ⌝ }
 {
     if pairs.len() / 2 != answers.len() {
         return false;
     }
     let made = book_of(sheet);
-    answer(made.book, pairs, answers);
+    answer(made.book, choice, pairs, answers);
     true
 }
 
-fn answer(book: Book, pairs: &[u16], answers: &mut [u64])
+fn answer(book: Book, choice: u8, pairs: &[u16], answers: &mut [u64])
     requires { ⌜ length (now pairs) / 2 ≡ length (now answers) ⌝ }
 {
     let mut k: usize = 0;
     while k < answers.len() {
-        answers[k] = found(router::route(book, pairs[2 * k], pairs[2 * k + 1]));
+        answers[k] = found(router::route(book, pairs[2 * k], pairs[2 * k + 1], choice));
         k += 1;
     }
 }
 
 // `routed`, over a book that is sound by proof, as a host asks it.
 #[no_mangle]
-pub extern "C" fn bench_routed(sheet: &[u8], pairs: &[u16], answers: &mut [u64]) -> u64 {
+pub extern "C" fn bench_routed(
+    sheet: &[u8],
+    choice: u8,
+    pairs: &[u16],
+    answers: &mut [u64],
+) -> u64 {
     let made = book_of(sheet);
     let answer = made.answer;
     match answer {
-        Answer::Done => many_routes::routes(made.book, pairs, answers),
+        Answer::Done => many_routes::routes(made.book, choice, pairs, answers),
         Answer::Refused(why) => refused(why),
     }
 }

@@ -1,4 +1,4 @@
--- Document 01, 'Notices': what stands in a book, and what stops a link.
+-- Document 01, 'Notices', and document 02, §5: what stands in a book, and what stops a link.
 use mathlib.Core.Path.{_≡_}
 use mathlib.Core.Bool.{Bool, _||_}
 use mathlib.Core.List.{List}
@@ -8,7 +8,8 @@ use Rattle.table.specs.Checks.{_below_}
 use Rattle.fabric.specs.Labels.{outsideSizes}
 use Rattle.notices.specs.declared.Notice.{Notice}
 use Rattle.notices.specs.Notices.{names, unfit}
-use Rattle.standing.specs.Picked.{Picked, Some, lowest}
+use Rattle.notices.specs.Classes.{counts}
+use Rattle.standing.specs.Picked.{Picked, Some, lowest, those}
 use Rattle.standing.specs.Rising.{filler, inPlaces, Filed, misfiled, littered}
 use Rattle.book.specs.declared.Book.{Book}
 
@@ -55,3 +56,12 @@ stopper n l i j c = lowest (λ x. names n x i j c) l
 -- says that these are the links that the notices accepted and not withdrawn since name.
 abbrev pub stopsOf : Book → ℕ → ℕ → ℕ → ℕ
 stopsOf b i j c = stopper (b .n) (standing b) i j c
+
+-- Document 02, §5: the notices that a route of this choice counts, all of those that stand or the broken ones only: `all-counted-stand` and `broken-counted-stand`
+-- (proofs/Counted.antt)
+abbrev pub counted : ℕ → Book → List Notice
+counted choice b = those (counts choice) (standing b)
+
+-- "stopped by a counted notice": which links these stop, and the lowest number that does. `counted-exactly` (proofs/Counted.antt)
+abbrev pub countedStops : ℕ → Book → ℕ → ℕ → ℕ → ℕ
+countedStops choice b i j c = stopper (b .n) (counted choice b) i j c

@@ -7,7 +7,8 @@ ghost use mathlib.Core.Bool.{false};
 ghost use Rattle.book.specs.Standing.{unsound, Sound};
 ghost use Rattle.book.specs.Entries.{Opens, Files, Withdraws};
 
-// The first `count` notices stand, by rising number; every place after them holds number 0 and the first target, all zero.
+// The first `count` notices stand, by rising number; every place after them holds number 0, class 0 and the first target,
+// all zero.
 pub struct Book {
     pub n: u8,
     pub count: usize,

@@ -16,7 +16,11 @@ pub fn book_of(sheet: &[u8]) -> Kept
     ensures { λ r. ⌜ HandsOver (now (sheet .entry)) (r .book) (r .answer) ⌝ }
 {
     match sheet_reader::read_header(sheet) {
-        Header::Sheet { n, count } => {
+        Header::Sheet {
+            n,
+            count,
+            version: _,
+        } => {
             let book = after_all(sheet, n, count);
             Kept {
                 book,
@@ -69,6 +73,7 @@ fn after_one(book: Book, action: Action) -> Book
         Action::Route {
             source: _,
             destination: _,
+            choice: _,
         } => book,
         Action::Refused(_) => book,
     }

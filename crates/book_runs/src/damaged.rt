@@ -1,4 +1,5 @@
 // 16: "a book that an accepted opening, filing and withdrawing cannot produce", in each entry over a book.
+use super::classed;
 use super::file;
 use super::link;
 use super::links;
@@ -17,7 +18,7 @@ fn entries(why: &[u8], book: Book) {
     file(book, links(5, 0, 0, 1));
     withdraw(book, 3);
     link(book, 0, 0, 0);
-    let mut memory = [0u8; 30];
+    let mut memory = [0u8; 33];
     listing(book, &mut memory);
     let mut none = [0u8; 0];
     write(book, &mut none);
@@ -81,12 +82,29 @@ fn places() {
     entries(b"rubbish in the last place", last);
 }
 
+// Document 02, §5: a class above 1, and a class in a place that is not in use.
+fn classes() {
+    let x = links(1, 0, 0, 1);
+    let z = links(4, 2, 2, 4);
+    let y = switch(3, 3, 1);
+    entries(b"class 2", holding(x, classed(y, 2), z));
+    entries(b"class 255", holding(x, y, classed(z, 255)));
+    let mut book = holding(x, y, z);
+    book.notices[3] = classed(links(0, 0, 0, 0), 1);
+    entries(b"a class in an unused place", book);
+    entries(
+        b"two busy, and no damage",
+        holding(classed(x, 1), classed(y, 1), z),
+    );
+}
+
 pub fn run() {
     word(b"damaged books\n");
     sizes();
     counts();
     numbers();
     places();
+    classes();
     entries(
         b"no damage",
         holding(links(1, 0, 0, 1), links(3, 1, 1, 2), links(4, 2, 2, 4)),

@@ -1,4 +1,5 @@
-// "Standing notices by rising number, ten bytes each as filing actions, at the front; the rest stays."
+// "Standing notices by rising number, .. as filing actions, at the front; the rest stays.", "eleven bytes each, class last"
+use super::classed;
 use super::file;
 use super::links;
 use super::listing;
@@ -21,13 +22,13 @@ pub fn run() {
     let mut none = [170u8; 0];
     listing(b0, &mut none);
     let b1 = file(b0, pattern(8, 0, 1, 3, 4));
-    let b2 = file(b1, switch(258, 2, 5));
+    let b2 = file(b1, classed(switch(258, 2, 5), 1));
     let b3 = file(b2, links(7, 0, 1, 4));
-    let mut short = [170u8; 29];
+    let mut short = [170u8; 32];
     held(b3, &mut short);
-    let mut just = [170u8; 30];
+    let mut just = [170u8; 33];
     held(b3, &mut just);
-    let mut long = [170u8; 33];
+    let mut long = [170u8; 36];
     held(b3, &mut long);
     held(open(0), &mut long);
 }

@@ -48,6 +48,7 @@ pub fn links(number: u16, stage: u8, switch: u16, set: u8) -> Notice {
     Notice {
         number,
         target: Target::Links { stage, switch, set },
+        class: 0,
     }
 }
 
@@ -55,6 +56,7 @@ pub fn switch(number: u16, column: u8, switch: u16) -> Notice {
     Notice {
         number,
         target: Target::Switch { column, switch },
+        class: 0,
     }
 }
 
@@ -67,6 +69,17 @@ pub fn pattern(number: u16, stage: u8, value: u16, mask: u16, set: u8) -> Notice
             mask,
             set,
         },
+        class: 0,
+    }
+}
+
+// The notice with another class.
+pub fn classed(notice: Notice, class: u8) -> Notice {
+    let target = notice.target;
+    Notice {
+        number: notice.number,
+        target,
+        class,
     }
 }
 

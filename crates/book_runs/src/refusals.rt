@@ -1,4 +1,5 @@
 // Each number of the table that open, file, withdraw and the link test give, and which comes first where several lines hold.
+use super::classed;
 use super::file;
 use super::link;
 use super::links;
@@ -52,6 +53,21 @@ fn fields(b: Book) {
     file(b, pattern(65535, 2, 7, 7, 7));
 }
 
+// Document 02, §5: a class above 1 is 5 too, after 4 and before 6; classes 0 and 1 are none, and number 7 runs over both.
+fn classes(b: Book) {
+    word(b"classes\n");
+    file(b, classed(links(0, 0, 0, 1), 2));
+    file(b, classed(links(1, 3, 0, 1), 2));
+    file(b, classed(links(1, 2, 7, 7), 2));
+    file(b, classed(switch(1, 3, 7), 255));
+    file(b, classed(pattern(1, 0, 1, 1, 7), 2));
+    file(b, classed(pattern(1, 0, 1, 1, 7), 1));
+    let b1 = file(b, classed(links(7, 0, 0, 1), 1));
+    file(b1, classed(links(7, 1, 1, 1), 2));
+    file(b1, links(7, 1, 1, 1));
+    link(b1, 0, 0, 0);
+}
+
 // 6: at n = 1 no pattern is accepted.
 fn widths(b: Book) {
     word(b"widths\n");
@@ -91,6 +107,7 @@ pub fn run() {
     let b = open(3);
     numbers_and_places(b);
     fields(b);
+    classes(b);
     widths(b);
     standing(b);
     tests(b);

@@ -1,9 +1,11 @@
-// Document 02, §1: "a header and one filing per standing notice, by rising number"; "later bytes stay".
+// Document 02, §1: "a header and one filing per standing notice, by rising number"; "later bytes stay"; §5: "version 2 when any busy notice stands".
+use super::classed;
 use super::file;
 use super::links;
 use super::open;
 use super::pattern;
 use super::switch;
+use super::withdraw;
 use super::write;
 use book::Book;
 use show::word;
@@ -30,4 +32,16 @@ pub fn run() {
     let mut long = [170u8; 41];
     held(b3, &mut long);
     held(open(0), &mut long);
+    with_busy(b3);
+}
+
+// A busy notice more, and gone again.
+fn with_busy(book: Book) {
+    let b4 = file(book, classed(links(9, 1, 2, 2), 1));
+    let mut short = [170u8; 51];
+    held(b4, &mut short);
+    let mut just = [170u8; 52];
+    held(b4, &mut just);
+    let b5 = withdraw(b4, 9);
+    held(b5, &mut just);
 }

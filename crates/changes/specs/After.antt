@@ -15,7 +15,7 @@ use Rattle.changes.specs.Runs.{Change, run}
 abbrev pub changesOf : Action → List Change
 changesOf (Action.File x) = Change.file x ∷ []
 changesOf (Action.Withdraw k) = Change.withdraw k ∷ []
-changesOf (Action.Route s d) = []
+changesOf (Action.Route s d choice) = []
 changesOf (Action.Refused why) = []
 
 -- the changes of a sheet's first k actions, in order. `changes-once` says that a sheet has one such list.

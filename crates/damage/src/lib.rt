@@ -8,31 +8,35 @@ ghost use lib.ListN.{take, drop};
 ghost use Rattle.table.specs.Checks.{_below_};
 ghost use Rattle.fabric.specs.Labels.{outsideSizes};
 ghost use Rattle.notices.specs.Notices.{unfit};
-ghost use Rattle.standing.specs.Rising.{isFiller, littered, misfiled};
+ghost use Rattle.standing.specs.Rising.{isFirstTarget, isFiller, littered, misfiled};
+
+// Whether a target is the one in places that hold no notice.
+fn is_first_target(t: Target) -> bool
+    ensures { λ r. ⌜ r ≡ isFirstTarget t ⌝ }
+{
+    match t {
+        Target::Links { stage, switch, set } => {
+            table::both(table::both(stage == 0, switch == 0), set == 0)
+        }
+        Target::Switch {
+            column: _,
+            switch: _,
+        } => false,
+        Target::Pattern {
+            stage: _,
+            value: _,
+            mask: _,
+            set: _,
+        } => false,
+    }
+}
 
 // Whether a place holds what unused places hold.
 fn is_filler(x: Notice) -> bool
     ensures { λ r. ⌜ r ≡ isFiller x ⌝ }
 {
     let t = x.target;
-    match t {
-        Target::Links { stage, switch, set } => {
-            table::both(
-                x.number == 0,
-                table::both(table::both(stage == 0, switch == 0), set == 0),
-            )
-        }
-        Target::Switch {
-            column: _,
-            switch: _,
-        } => table::both(x.number == 0, false),
-        Target::Pattern {
-            stage: _,
-            value: _,
-            mask: _,
-            set: _,
-        } => table::both(x.number == 0, false),
-    }
+    table::both(table::both(x.number == 0, is_first_target(t)), x.class == 0)
 }
 
 // Whether one of the first `count` notices is out of order, or one that filing refuses.

@@ -36,10 +36,10 @@ listing-told-once sheet before after later q r v w = over-once sheet before afte
         let e = lists-once b before after later (x .0) (y .0) (x .1) (y .1) in
         (x .2 ∙ ap (λ (a : Listing). packed (listingSays a)) (e .0) ∙ sym (y .2), e .1)
 
-pub routes-told-once : (sheet pairs before after later : List ℕ) (q r : ℕ)
-    → OverLent sheet before after (λ b. RoutesPairs b pairs before after) q → OverLent sheet before later (λ b. RoutesPairs b pairs before later) r
+pub routes-told-once : (choice : ℕ) (sheet pairs before after later : List ℕ) (q r : ℕ)
+    → OverLent sheet before after (λ b. RoutesPairs b choice pairs before after) q → OverLent sheet before later (λ b. RoutesPairs b choice pairs before later) r
     → (q ≡ r) × (after ≡ later)
-routes-told-once sheet pairs before after later q r v w = over-once sheet before after later _ _ q r (λ b x y. pairs-once b pairs before after later q r x y) v w
+routes-told-once choice sheet pairs before after later q r v w = over-once sheet before after later _ _ q r (λ b x y. pairs-once b choice pairs before after later q r x y) v w
 
 pub run-told-once : (sheet before after later : List ℕ) (q r : ℕ)
     → Tells (λ a. Runs sheet before a after) ranSays q → Tells (λ a. Runs sheet before a later) ranSays r → (q ≡ r) × (after ≡ later)

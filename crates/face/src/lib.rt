@@ -1,6 +1,5 @@
-// Document 01's entries for C and Rust: numbers and byte slices alone. include/tabashfar.h says how a host calls them. An answer is one
+// Document 01's entries, with document 02's §1 to §5, for C and Rust: numbers and byte slices alone. include/tabashfar.h says how a host calls them. An answer is one
 // number (`packed`): its low byte is the table's number, 0 where the call was accepted, and the bits from 8 on hold the value.
-use actions::ACTION_LENGTH;
 use actions::HEADER_LENGTH;
 use book::Book;
 use book_maker::book_of;
@@ -32,9 +31,10 @@ ghost use Rattle.questions.specs.Entries.{linkSays, listingSays, Tests, Lists};
 ghost use Rattle.walks.specs.Entries.{walkSays, Walks};
 ghost use Rattle.routes.specs.Routed.{routeSays, Routes};
 ghost use Rattle.actions.specs.Entries.{ReadsAction};
-ghost use Rattle.sheet.specs.Entries.{headerSays, ReadsHeader, HasAction, startOf, partOf};
+ghost use Rattle.sheet.specs.Entries.{ReadsHeader, HasAction, startOf, partOf};
 ghost use Rattle.printed.specs.Runs.{ranSays, Runs};
 ghost use Rattle.packing.specs.Packed.{byte, Tells};
+ghost use Rattle.packer.specs.Headers.{headerTold};
 ghost use Rattle.fields.specs.Fields.{kindSays, ReadsFields};
 ghost use Rattle.pairs.specs.Pairs.{RoutesPairs};
 ghost use Rattle.handed.specs.Books.{OverSheet, OverLent};
@@ -94,15 +94,17 @@ pub extern "C" fn tabashfar_file_links(
     stage: u8,
     switch: u16,
     set: u8,
+    class: u8,
     memory: &mut [u8],
 ) -> u64
-    ensures { λ r. ⌜ Asks (now (sheet .entry)) (Change.file (record { number = number; target = Links stage switch set })) (now (memory .entry)) (now (memory .exit)) r ⌝ }
+    ensures { λ r. ⌜ Asks (now (sheet .entry)) (Change.file (record { number = number; target = Links stage switch set; class = class })) (now (memory .entry)) (now (memory .exit)) r ⌝ }
 {
     filed(
         sheet,
         Notice {
             number,
             target: Target::Links { stage, switch, set },
+            class,
         },
         memory,
     )
@@ -114,15 +116,17 @@ pub extern "C" fn tabashfar_file_switch(
     number: u16,
     column: u8,
     switch: u16,
+    class: u8,
     memory: &mut [u8],
 ) -> u64
-    ensures { λ r. ⌜ Asks (now (sheet .entry)) (Change.file (record { number = number; target = Switch column switch })) (now (memory .entry)) (now (memory .exit)) r ⌝ }
+    ensures { λ r. ⌜ Asks (now (sheet .entry)) (Change.file (record { number = number; target = Switch column switch; class = class })) (now (memory .entry)) (now (memory .exit)) r ⌝ }
 {
     filed(
         sheet,
         Notice {
             number,
             target: Target::Switch { column, switch },
+            class,
         },
         memory,
     )
@@ -136,9 +140,10 @@ pub extern "C" fn tabashfar_file_pattern(
     value: u16,
     mask: u16,
     set: u8,
+    class: u8,
     memory: &mut [u8],
 ) -> u64
-    ensures { λ r. ⌜ Asks (now (sheet .entry)) (Change.file (record { number = number; target = Pattern stage value mask set })) (now (memory .entry)) (now (memory .exit)) r ⌝ }
+    ensures { λ r. ⌜ Asks (now (sheet .entry)) (Change.file (record { number = number; target = Pattern stage value mask set; class = class })) (now (memory .entry)) (now (memory .exit)) r ⌝ }
 {
     filed(
         sheet,
@@ -150,6 +155,7 @@ pub extern "C" fn tabashfar_file_pattern(
                 mask,
                 set,
             },
+            class,
         },
         memory,
     )
@@ -171,7 +177,7 @@ pub extern "C" fn tabashfar_withdraw(sheet: &[u8], number: u16, memory: &mut [u8
     }
 }
 
-// "Write a version 1 sheet from a book"
+// "Write a version 1 sheet from a book", or version 2 "when any busy notice stands"
 #[no_mangle]
 pub extern "C" fn tabashfar_write(sheet: &[u8], memory: &mut [u8]) -> u64
     ensures { λ r. ⌜ OverLent (now (sheet .entry)) (now (memory .entry)) (now (memory .exit)) (λ b. Tells (Writes b (now (memory .entry)) (now (memory .exit))) writtenSays) r ⌝ }
@@ -197,28 +203,33 @@ pub extern "C" fn tabashfar_link(sheet: &[u8], stage: u8, switch: u16, code: u8)
     }
 }
 
-// "route"
+// "route", over all notices or broken ones only
 #[no_mangle]
-pub extern "C" fn tabashfar_route(sheet: &[u8], source: u16, destination: u16) -> u64
-    ensures { λ r. ⌜ OverSheet (now (sheet .entry)) (λ b. Tells (Routes b source destination) routeSays) r ⌝ }
+pub extern "C" fn tabashfar_route(sheet: &[u8], source: u16, destination: u16, choice: u8) -> u64
+    ensures { λ r. ⌜ OverSheet (now (sheet .entry)) (λ b. Tells (Routes b source destination choice) routeSays) r ⌝ }
 {
     let handed = book_of(sheet);
     let makes = handed.answer;
     match makes {
-        Answer::Done => found(router::routed(handed.book, source, destination)),
+        Answer::Done => found(router::routed(handed.book, source, destination, choice)),
         Answer::Refused(why) => refused(why),
     }
 }
 
-// "route", for each pair of a source and a destination, in order: one book for all, and the answers at the front of the memory
+// "route", for each pair of a source and a destination, in order: one book and one choice for all, and the answers at the front of the memory
 #[no_mangle]
-pub extern "C" fn tabashfar_routes(sheet: &[u8], pairs: &[u16], answers: &mut [u64]) -> u64
-    ensures { λ r. ⌜ OverLent (now (sheet .entry)) (now (answers .entry)) (now (answers .exit)) (λ b. RoutesPairs b (now (pairs .entry)) (now (answers .entry)) (now (answers .exit))) r ⌝ }
+pub extern "C" fn tabashfar_routes(
+    sheet: &[u8],
+    choice: u8,
+    pairs: &[u16],
+    answers: &mut [u64],
+) -> u64
+    ensures { λ r. ⌜ OverLent (now (sheet .entry)) (now (answers .entry)) (now (answers .exit)) (λ b. RoutesPairs b choice (now (pairs .entry)) (now (answers .entry)) (now (answers .exit))) r ⌝ }
 {
     let handed = book_of(sheet);
     let makes = handed.answer;
     match makes {
-        Answer::Done => many_routes::routes(handed.book, pairs, answers),
+        Answer::Done => many_routes::routes(handed.book, choice, pairs, answers),
         Answer::Refused(why) => refused(why),
     }
 }
@@ -249,10 +260,10 @@ pub extern "C" fn tabashfar_listing(sheet: &[u8], memory: &mut [u8]) -> u64
     }
 }
 
-// "sheet header"
+// "sheet header": n in the low byte of the value, the count from bit 8 on, the version from bit 24 on
 #[no_mangle]
 pub extern "C" fn tabashfar_header(sheet: &[u8]) -> u64
-    ensures { λ r. ⌜ Tells (ReadsHeader (now (sheet .entry))) headerSays r ⌝ }
+    ensures { λ r. ⌜ Tells (ReadsHeader (now (sheet .entry))) headerTold r ⌝ }
 {
     header_told(sheet_reader::read_header(sheet))
 }
@@ -271,7 +282,10 @@ pub extern "C" fn tabashfar_action_part(sheet: &[u8], k: usize) -> u64
     ensures { λ r. ⌜ r ≡ length (partOf (now (sheet .entry)) k) + byte * startOf (now (sheet .entry)) k ⌝ }
 {
     match sheet_reader::has_action(sheet, k) {
-        Answer::Done => ACTION_LENGTH as u64 + BYTE * (HEADER_LENGTH + ACTION_LENGTH * k) as u64,
+        Answer::Done => {
+            let each = sheet_reader::each_in(sheet);
+            each as u64 + BYTE * (HEADER_LENGTH + each * k) as u64
+        }
         Answer::Refused(_) => 0,
     }
 }
@@ -284,7 +298,7 @@ pub extern "C" fn tabashfar_read_action(part: &[u8]) -> u64
     field_reader::kind(action_bytes::read_action(part))
 }
 
-// "otherwise the action with its fields": the seven of them at the front of the memory
+// "otherwise the action with its fields": the eight of them at the front of the memory
 #[no_mangle]
 pub extern "C" fn tabashfar_action_fields(part: &[u8], memory: &mut [u16]) -> u64
     ensures { λ r. ⌜ ReadsFields (now (part .entry)) (now (memory .entry)) (now (memory .exit)) r ⌝ }

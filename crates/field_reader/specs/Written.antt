@@ -11,4 +11,4 @@ use Rattle.fields.specs.Fields.{inOrder, roomCheck}
 
 pub record FieldsWritten (part before after : List ℕ) (r : ℕ) : Type 0 where
   pub says : r ≡ packed (checked (roomCheck before) refused (Reply.accepted (getD part 0 0 ∷ [])))
-  pub leaves : after ≡ checked (roomCheck before) (λ k. before) (inOrder (fieldsOf part) ++ drop 7 before)
+  pub leaves : after ≡ checked (roomCheck before) (λ k. before) (inOrder (fieldsOf part) ++ drop 8 before)

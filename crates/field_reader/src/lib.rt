@@ -1,4 +1,4 @@
-// The action reader for C and Rust: which action a part holds, and its seven fields written into lent memory.
+// The action reader for C and Rust: which action a part holds, and its eight fields written into lent memory.
 use actions::Action;
 use packer::refused;
 use packer::value;
@@ -8,7 +8,6 @@ ghost use Prim.Native.Nat.{_≤_};
 ghost use mathlib.Core.List.{_++_};
 ghost use lib.ListN.{length, drop};
 ghost use Rattle.packing.specs.Packed.{packed};
-ghost use Rattle.actions.specs.Layout.{actionLength};
 ghost use Rattle.actions.specs.Format.{fieldsOf};
 ghost use Rattle.fields.specs.Fields.{kindSays, inOrder, ReadsFields};
 ghost use Rattle.field_reader.specs.Written.{FieldsWritten};
@@ -23,6 +22,7 @@ pub fn kind(action: Action) -> u64
         Action::Route {
             source: _,
             destination: _,
+            choice: _,
         } => value(3),
         Action::Refused(why) => refused(why),
     }
@@ -38,6 +38,7 @@ pub fn read_fields(part: &[u8], memory: &mut [u16]) -> u64
         Action::Route {
             source: _,
             destination: _,
+            choice: _,
         } => written(part, memory),
         Action::Refused(why) => refused(why),
     }
@@ -45,20 +46,20 @@ pub fn read_fields(part: &[u8], memory: &mut [u16]) -> u64
 
 // The fields of a part that holds an action.
 fn written(part: &[u8], memory: &mut [u16]) -> u64
-    requires { ⌜ length (now part) ≡ actionLength ⌝ }
+    requires { ⌜ 10 ≤ length (now part) ⌝ }
     ensures { λ r. ⌜ FieldsWritten (now (part .entry)) (now (memory .entry)) (now (memory .exit)) r ⌝ }
 {
-    if memory.len() < 7 {
+    if memory.len() < 8 {
         return refused(Refusal::Room);
     }
     write(part, memory);
     value(wide(part[0]) as u64)
 }
 
-// The seven fields, in 01's order.
+// The eight fields, in their order.
 fn write(part: &[u8], memory: &mut [u16])
-    requires { ⌜ (length (now part) ≡ actionLength) × (7 ≤ length (now memory)) ⌝ }
-    ensures { λ _. ⌜ now (memory .exit) ≡ inOrder (fieldsOf (now (part .entry))) ++ drop 7 (now (memory .entry)) ⌝ }
+    requires { ⌜ (10 ≤ length (now part)) × (8 ≤ length (now memory)) ⌝ }
+    ensures { λ _. ⌜ now (memory .exit) ≡ inOrder (fieldsOf (now (part .entry))) ++ drop 8 (now (memory .entry)) ⌝ }
 {
     memory[0] = wide(part[0]);
     memory[1] = action_bytes::word_at(part, 1);
@@ -67,6 +68,7 @@ fn write(part: &[u8], memory: &mut [u16])
     memory[4] = action_bytes::word_at(part, 5);
     memory[5] = action_bytes::word_at(part, 7);
     memory[6] = wide(part[9]);
+    memory[7] = wide(action_bytes::class_of(part));
 }
 
 fn wide(x: u8) -> u16

@@ -11,6 +11,8 @@ use Rattle.packing.specs.Packed.{packed}
 use Rattle.actions.specs.declared.Action.{Action}
 use Rattle.actions.specs.Format.{IsAction, fieldsOf, bytesOf}
 use Rattle.actions.specs.Entries.{ReadsAction}
+use Rattle.actions.specs.declared.Fields.{Fields}
+use Rattle.actions.proofs.Layouts.{fields-with-class}
 use Rattle.actions.proofs.Actions.{read-is-written}
 use Rattle.fields.specs.Fields.{kindSays, inOrder, ReadsFields}
 use Rattle.fields.proofs.Fields.{kind-is-first-byte}
@@ -25,20 +27,20 @@ module _ (part before after : List ℕ) (r : ℕ) (reads : ReadsFields part befo
   first = getD part 0 0 ∷ []
 
   abbrev laid : List ℕ
-  laid = inOrder (fieldsOf part) ++ drop 7 before
+  laid = inOrder (fieldsOf part) ++ drop 8 before
 
   -- an action's number and fields, where there is room for them
-  pub fields-given : (a : Action) → IsAction a → ReadsAction part a → 7 ≤ length before → (r ≡ packed (kindSays a)) × (after ≡ inOrder (fieldsOf (bytesOf a)) ++ drop 7 before)
+  pub fields-given : (a : Action) → IsAction a → ReadsAction part a → 8 ≤ length before → (r ≡ packed (kindSays a)) × (after ≡ inOrder (fieldsOf (bytesOf a)) ++ drop 8 before)
   fields-given a i h room =
-      let fits = le-ltb (length before) 7 room in (
+      let fits = le-ltb (length before) 8 room in (
         reads .says ∙ ap packed {y = kindSays a} (room-left part before refused (accepted first) a i h ∙ rw fits (sym (kind-is-first-byte part a i h))),
-        reads .leaves ∙ room-left part before (λ k. before) laid a i h ∙ rw fits (ap (λ (l : List ℕ). inOrder (fieldsOf l) ++ drop 7 before) (sym (read-is-written part a i h))),
+        reads .leaves ∙ room-left part before (λ k. before) laid a i h ∙ rw fits (ap (λ (f : Fields). inOrder f ++ drop 8 before) (sym (fields-with-class part) ∙ ap fieldsOf (sym (read-is-written part a i h)))),
       )
 
   -- 13 where there is none
-  pub fields-short : (a : Action) → IsAction a → ReadsAction part a → length before < 7 → (r ≡ 13) × (after ≡ before)
+  pub fields-short : (a : Action) → IsAction a → ReadsAction part a → length before < 8 → (r ≡ 13) × (after ≡ before)
   fields-short a i h room =
-      let short = lt-ltb (length before) 7 room in (
+      let short = lt-ltb (length before) 8 room in (
         reads .says ∙ ap packed (room-left part before refused (accepted first) a i h) ∙ rw short,
         reads .leaves ∙ room-left part before (λ k. before) laid a i h ∙ rw short,
       )

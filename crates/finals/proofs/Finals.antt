@@ -24,7 +24,7 @@ use Rattle.changes.specs.Runs.{Change, run, StandsSince}
 use Rattle.changes.specs.After.{Changes, After}
 use Rattle.changes.proofs.After.{after-once}
 use Rattle.changes.proofs.Sounds.{size-passes}
-use Rattle.written.specs.Sheets.{sheetOf}
+use Rattle.written.specs.Sheets.{versionFor, eachFor, sheetOf}
 use Rattle.written.proofs.Since.{sheet-since, sheet-stands-in}
 use Rattle.input.specs.declared.Input.{Input}
 use Rattle.input.specs.Rooms.{inputRoom}
@@ -38,10 +38,10 @@ module _ {sheet before after : List ℕ} {answer : Final} (w : WritesFinal sheet
   final-by h reads = rw (header-once sheet (w .header) h (w .reads) reads) at (w .final)
 
   -- "Write a version 1 sheet from a book": from the one after all the actions of the sheet. "It answers the length; later bytes stay."
-  pub final-sheet : (n count : ℕ) (b : Book) → ReadsHeader sheet (Header.Sheet n count) → After sheet n count b
+  pub final-sheet : (n count version : ℕ) (b : Book) → ReadsHeader sheet (Header.Sheet n count version) → After sheet n count b
       → (answer ≡ Final.Sheet (length (sheetOf b))) × (after ≡ sheetOf b ++ drop (length (sheetOf b)) before)
-  final-sheet n count b reads made =
-      let x = final-by (Header.Sheet n count) reads in
+  final-sheet n count version b reads made =
+      let x = final-by (Header.Sheet n count version) reads in
       let e = after-once sheet n count (x .0) b (x .1) made in
       (x .2 ∙ ap (λ (c : Book). Final.Sheet (length (sheetOf c))) e, x .3 ∙ ap (λ (c : Book). sheetOf c ++ drop (length (sheetOf c)) before) e)
 
@@ -54,7 +54,7 @@ module _ {sheet before after : List ℕ} {answer : Final} (w : WritesFinal sheet
   refused-exactly why = ((λ e. go (w .header) (w .reads) (w .final) e), (λ reads. final-refusal why reads .0))
     where
       go : (h : Header) → ReadsHeader sheet h → FinalOf sheet before h answer after → answer ≡ Final.Refused why → ReadsHeader sheet (Header.Refused why)
-      go (Header.Sheet n count) reads x e =
+      go (Header.Sheet n count version) reads x e =
           let f : Final.Refused why ≡ Final.Sheet (length (sheetOf (x .0))) = sym e ∙ x .2 in
           absurd (zero-one cc)
       go (Header.Refused wherefore) reads x e =
@@ -67,8 +67,8 @@ pub final-once : (sheet before : List ℕ) (q r : Final) (x y : List ℕ) → Wr
 final-once sheet before q r x y v w = go (w .header) (w .reads) (w .final)
   where
     go : (h : Header) → ReadsHeader sheet h → FinalOf sheet before h r y → (q ≡ r) × (x ≡ y)
-    go (Header.Sheet n count) reads z =
-        let u = final-sheet v n count (z .0) reads (z .1) in
+    go (Header.Sheet n count version) reads z =
+        let u = final-sheet v n count version (z .0) reads (z .1) in
         (u .0 ∙ sym (z .2), u .1 ∙ sym (z .3))
     go (Header.Refused why) reads z =
         let u = final-refusal v why reads in
@@ -83,23 +83,23 @@ module _ {sheet before after : List ℕ} {bytes : ℕ} (w : WritesFinal sheet be
       let same : bytes ≡ length (sheetOf b) = cc in
       (same, ap (λ (k : ℕ). take k after) same ∙ ap (take (length (sheetOf b))) leaves ∙ take-append-seam (sheetOf b) (drop (length (sheetOf b)) before))
 
-  pub final-book : (n count : ℕ) (b : Book) → ReadsHeader sheet (Header.Sheet n count) → After sheet n count b
-      → ReadsHeader (take bytes after) (Header.Sheet n (length (standing b))) × After (take bytes after) n (length (standing b)) b
-  final-book n count b reads made =
-      let x = final-sheet w n count b reads made in
+  pub final-book : (n count version : ℕ) (b : Book) → ReadsHeader sheet (Header.Sheet n count version) → After sheet n count b
+      → ReadsHeader (take bytes after) (Header.Sheet n (length (standing b)) (versionFor (standing b))) × After (take bytes after) n (length (standing b)) b
+  final-book n count version b reads made =
+      let x = final-sheet w n count version b reads made in
       let e = written-of b (x .0) (x .1) .1 in
       let size = header-sizes reads refl in
-      subst (λ (s : List ℕ). ReadsHeader s (Header.Sheet n (length (standing b))) × After s n (length (standing b)) b) (sym e)
-      (subst (λ (c : Book). ReadsHeader (sheetOf c) (Header.Sheet n (length (standing c))) × After (sheetOf c) n (length (standing c)) c) (sym (made .makes))
+      subst (λ (s : List ℕ). ReadsHeader s (Header.Sheet n (length (standing b)) (versionFor (standing b))) × After s n (length (standing b)) b) (sym e)
+      (subst (λ (c : Book). ReadsHeader (sheetOf c) (Header.Sheet n (length (standing c)) (versionFor (standing c))) × After (sheetOf c) n (length (standing c)) c) (sym (made .makes))
       (sheet-stands-in n (size-passes n (size .0) (size .1)) (made .changes)))
 
   -- it has a filing for each notice that the sheet's actions filed, accepted and not withdrawn since, by rising number;
-  pub final-since : (n count : ℕ) (changes : List Change) → ReadsHeader sheet (Header.Sheet n count) → Changes sheet count changes
+  pub final-since : (n count version : ℕ) (changes : List Change) → ReadsHeader sheet (Header.Sheet n count version) → Changes sheet count changes
       → (bad : Notice → Bool) (l : List Notice) → Filed bad 0 l → ((x : Notice) → List·Memᴰ x l ↔ StandsSince (opened n) changes x)
-      → take bytes after ≡ headerBytes n (length l) ++ rows l
-  final-since n count changes reads held bad l rising these =
+      → take bytes after ≡ headerBytes (versionFor l) n (length l) ++ rows (eachFor l) l
+  final-since n count version changes reads held bad l rising these =
       let b : Book = run changes (opened n) in
-      let x = final-sheet w n count b reads (record { changes = changes; held = held; makes = refl }) in
+      let x = final-sheet w n count version b reads (record { changes = changes; held = held; makes = refl }) in
       let size = header-sizes reads refl in
       written-of b (x .0) (x .1) .1 ∙ sheet-since n (size-passes n (size .0) (size .1)) changes bad l rising these
 
@@ -109,12 +109,12 @@ module _ {sheet before after : List ℕ} {bytes : ℕ} (w : WritesFinal sheet be
     where
       go : (h : Header) → ReadsHeader sheet h → FinalOf sheet before h (Final.Sheet bytes) after
           → WritesFinal (take bytes after) other (Final.Sheet bytes) (take bytes after ++ drop bytes other)
-      go (Header.Sheet n count) reads x =
+      go (Header.Sheet n count version) reads x =
           let b : Book = x .0 in
           let e = written-of b (x .2) (x .3) in
-          let f = final-book n count b reads (x .1) in
+          let f = final-book n count version b reads (x .1) in
           record {
-            header = Header.Sheet n (length (standing b));
+            header = Header.Sheet n (length (standing b)) (versionFor (standing b));
             reads = f .0;
             final = (b, f .1, ap Final.Sheet (e .0), ap (λ (s : List ℕ). s ++ drop bytes other) (e .1) ∙ ap (λ (k : ℕ). sheetOf b ++ drop k other) (e .0));
           }
@@ -127,7 +127,7 @@ pub front-final : (input before : List ℕ) (m : ℕ) (answer : Final) (after : 
 front-final input before m answer after enough w = go (w .header) (w .reads) (w .final)
   where
     go : (h : Header) → ReadsHeader (take m input) h → FinalOf (take m input) before h answer after → WritesFinal input before answer after
-    go (Header.Sheet n count) reads x = rw (front-is-all input m enough reads) at w
+    go (Header.Sheet n count version) reads x = rw (front-is-all input m enough reads) at w
     go (Header.Refused why) reads x = record { header = Header.Refused why; reads = front-answers input m (Header.Refused why) enough reads; final = x }
 
 -- what was read is written in one way alone,
@@ -143,7 +143,7 @@ final-unread-exactly = unread-exactly WritesFinal _ none-unread
     none-unread sheet before after w = go (w .header) (w .final)
       where
         go : (h : Header) → FinalOf sheet before h Final.Unread after → ⊥
-        go (Header.Sheet n count) x = let e = x .2 in zero-one cc
+        go (Header.Sheet n count version) x = let e = x .2 in zero-one cc
         go (Header.Refused why) x = let e = x .0 in zero-one cc
 
 -- and the sheet lies within the memory
@@ -151,7 +151,7 @@ within-memory : {sheet before after : List ℕ} {bytes : ℕ} → WritesFinal sh
 within-memory {sheet} {before} {after} {bytes} w = go (w .header) (w .final)
   where
     go : (h : Header) → FinalOf sheet before h (Final.Sheet bytes) after → bytes ≤ length after
-    go (Header.Sheet n count) x =
+    go (Header.Sheet n count version) x =
         let b : Book = x .0 in
         let f : Final.Sheet bytes ≡ Final.Sheet (length (sheetOf b)) = x .2 in
         let same : bytes ≡ length (sheetOf b) = cc in
@@ -171,10 +171,10 @@ final-within {memory} {before} {after} {read} {answer} {bytes} w e = go read ref
         absurd (zero-one cc)
 
 -- what goes to standard output: the sheet of the final book and nothing else,
-pub prints-the-sheet : {sheet before after : List ℕ} {answer : Final} {n count : ℕ} {b : Book} → WritesFinal sheet before answer after
-    → ReadsHeader sheet (Header.Sheet n count) → After sheet n count b → sheetPrinted after answer ≡ sheetOf b
-prints-the-sheet {before = before} {n = n} {count = count} {b = b} w reads made =
-    let x = final-sheet w n count b reads made in
+pub prints-the-sheet : {sheet before after : List ℕ} {answer : Final} {n count version : ℕ} {b : Book} → WritesFinal sheet before answer after
+    → ReadsHeader sheet (Header.Sheet n count version) → After sheet n count b → sheetPrinted after answer ≡ sheetOf b
+prints-the-sheet {before = before} {n = n} {count = count} {version = version} {b = b} w reads made =
+    let x = final-sheet w n count version b reads made in
     rw (x .0, x .1) (take-append-seam (sheetOf b) (drop (length (sheetOf b)) before))
 
 -- nothing where the header is refused,

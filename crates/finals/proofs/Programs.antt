@@ -60,7 +60,7 @@ module _ {sheet before : List ℕ} {b : Book} {a : Answer} (hands : HandsOver sh
   final-made {after} {answer} e x = go (rw e at hands)
     where
       go : HandsOver sheet b Answer.Done → WritesFinal sheet before answer after
-      go (makes {n = n} {count = count} reads made sound) = record { header = Header.Sheet n count; reads = reads; final = (b, made, x .0, x .1) }
+      go (makes {n = n} {count = count} {version = version} reads made sound) = record { header = Header.Sheet n count version; reads = reads; final = (b, made, x .0, x .1) }
 
   -- or the header's refusal, and nothing written
   pub final-refused : {why : Refusal} → a ≡ Answer.Refused why → WritesFinal sheet before (Final.Refused why) before

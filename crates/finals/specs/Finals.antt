@@ -13,10 +13,10 @@ use Rattle.input.specs.declared.Input.{Input}
 use Rattle.input.specs.Answers.{Answers}
 use Rattle.finals.specs.declared.Final.{Final}
 
--- "Write a version 1 sheet from a book": from the one after all actions, at the front of the memory, with its length as the answer
+-- "Write a version 1 sheet from a book", or version 2 "when any busy notice stands": from the one after all actions, at the front of the memory, with its length as the answer
 -- (`final-sheet`). Where the header is refused its refusal is the answer and nothing is written (`final-refusal`).
 abbrev pub FinalOf : (sheet before : List ℕ) → Header → Final → List ℕ → Type 0
-FinalOf sheet before (Header.Sheet n count) answer after =
+FinalOf sheet before (Header.Sheet n count version) answer after =
     (b : Book) × After sheet n count b × (answer ≡ Final.Sheet (length (sheetOf b))) × (after ≡ sheetOf b ++ drop (length (sheetOf b)) before)
 FinalOf sheet before (Header.Refused why) answer after = (answer ≡ Final.Refused why) × (after ≡ before)
 

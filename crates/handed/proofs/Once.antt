@@ -15,9 +15,9 @@ use Rattle.sheet.proofs.Sheets.{header-once}
 use Rattle.handed.specs.Books.{HandsOver, HandsOver.makes, HandsOver.refuses, Over, OverLent, OverSheet}
 
 -- with 'done' comes the book after all the actions that the header counts
-pub handed-makes : (sheet : List ℕ) (b : Book) (n count : ℕ) → HandsOver sheet b Answer.Done → ReadsHeader sheet (Header.Sheet n count) → After sheet n count b
-handed-makes sheet b n count (makes {n = m} {count = k} reads after sound) again =
-    let e = header-once sheet (Header.Sheet m k) (Header.Sheet n count) reads again in
+pub handed-makes : (sheet : List ℕ) (b : Book) (n count version : ℕ) → HandsOver sheet b Answer.Done → ReadsHeader sheet (Header.Sheet n count version) → After sheet n count b
+handed-makes sheet b n count version (makes {n = m} {count = k} {version = v} reads after sound) again =
+    let e = header-once sheet (Header.Sheet m k v) (Header.Sheet n count version) reads again in
     let size : m ≡ n = cc in
     let number : k ≡ count = cc in
     let made : After sheet m k b = after in
@@ -25,13 +25,13 @@ handed-makes sheet b n count (makes {n = m} {count = k} reads after sound) again
 
 -- a sheet hands over one book with one answer
 pub handed-once : (sheet : List ℕ) (b c : Book) (p q : Answer) → HandsOver sheet b p → HandsOver sheet c q → (b ≡ c) × (p ≡ q)
-handed-once sheet b c p q (makes reads after sound) (makes {n = m} {count = j} again later sounds) =
-    (after-once sheet m j b c (handed-makes sheet b m j (makes reads after sound) again) later, refl)
-handed-once sheet b c p q (makes {n = n} {count = k} reads after sound) (refuses {why = why} again size) =
-    let e = header-once sheet (Header.Sheet n k) (Header.Refused why) reads again in
+handed-once sheet b c p q (makes reads after sound) (makes {n = m} {count = j} {version = v} again later sounds) =
+    (after-once sheet m j b c (handed-makes sheet b m j v (makes reads after sound) again) later, refl)
+handed-once sheet b c p q (makes {n = n} {count = k} {version = v} reads after sound) (refuses {why = why} again size) =
+    let e = header-once sheet (Header.Sheet n k v) (Header.Refused why) reads again in
     absurd (zero-one cc)
-handed-once sheet b c p q (refuses {why = why} reads size) (makes {n = n} {count = k} again later sounds) =
-    let e = header-once sheet (Header.Refused why) (Header.Sheet n k) reads again in
+handed-once sheet b c p q (refuses {why = why} reads size) (makes {n = n} {count = k} {version = v} again later sounds) =
+    let e = header-once sheet (Header.Refused why) (Header.Sheet n k v) reads again in
     absurd (zero-one cc)
 handed-once sheet b c p q (refuses {why = why} reads size) (refuses {why = wherefore} again sizes) =
     let e = header-once sheet (Header.Refused why) (Header.Refused wherefore) reads again in
@@ -40,9 +40,9 @@ handed-once sheet b c p q (refuses {why = why} reads size) (refuses {why = where
 
 module _ (sheet before after : List ℕ) (answers : Book → ℕ → Type 0) (r : ℕ) (o : OverLent sheet before after answers r) where
   -- the answer over the book that the sheet makes
-  pub over-book : (n count : ℕ) (b : Book) → ReadsHeader sheet (Header.Sheet n count) → After sheet n count b → answers b r
-  over-book n count b reads made =
-      let x : Over sheet before after answers (Header.Sheet n count) r = rw (header-once sheet (o .header) (Header.Sheet n count) (o .reads) reads) at (o .over) in
+  pub over-book : (n count version : ℕ) (b : Book) → ReadsHeader sheet (Header.Sheet n count version) → After sheet n count b → answers b r
+  over-book n count version b reads made =
+      let x : Over sheet before after answers (Header.Sheet n count version) r = rw (header-once sheet (o .header) (Header.Sheet n count version) (o .reads) reads) at (o .over) in
       rw (after-once sheet n count (x .0) b (x .1) made) at (x .2)
 
   -- "a sheet whose header is refused gives the header's number", and the memory is as it was
@@ -56,7 +56,7 @@ pub over-once : (sheet before after later : List ℕ) (left right : Book → ℕ
 over-once sheet before after later left right q r once v w = go (w .header) (w .reads) (w .over)
   where
     go : (h : Header) → ReadsHeader sheet h → Over sheet before later right h r → (q ≡ r) × (after ≡ later)
-    go (Header.Sheet n count) reads y = once (y .0) (over-book sheet before after left q v n count (y .0) reads (y .1)) (y .2)
+    go (Header.Sheet n count version) reads y = once (y .0) (over-book sheet before after left q v n count version (y .0) reads (y .1)) (y .2)
     go (Header.Refused why) reads y =
         let x = over-header sheet before after left q v why reads in
         (x .0 ∙ sym (y .0), x .1 ∙ sym (y .1))

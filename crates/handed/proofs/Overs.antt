@@ -19,7 +19,7 @@ use Rattle.handed.specs.Books.{HandsOver, HandsOver.makes, HandsOver.ref
 
 module _ {sheet : List ℕ} {b : Book} where
   -- the header's answer, and what is made by it
-  pub hands-book : {h : Header} {n count : ℕ} → ReadsHeader sheet h → h ≡ Header.Sheet n count → After sheet n count b × Sound b → HandsOver sheet b Answer.Done
+  pub hands-book : {h : Header} {n count version : ℕ} → ReadsHeader sheet h → h ≡ Header.Sheet n count version → After sheet n count b × Sound b → HandsOver sheet b Answer.Done
   hands-book reads e m = makes (rw e at reads) (m .0) (m .1)
 
   pub hands-none : {h : Header} {why : Refusal} {r : Kept} → ReadsHeader sheet h → h ≡ Header.Refused why → Opens 0 r → b ≡ r .book → HandsOver sheet b (Answer.Refused why)
@@ -45,7 +45,7 @@ module _ {sheet : List ℕ} {b : Book} where
       over-handed {after} e x = go (rw e at hands)
         where
           go : HandsOver sheet b Answer.Done → OverLent sheet before after answers r
-          go (makes {n = n} {count = count} reads by sound) = record { header = Header.Sheet n count; reads = reads; over = (b, by, x) }
+          go (makes {n = n} {count = count} {version = version} reads by sound) = record { header = Header.Sheet n count version; reads = reads; over = (b, by, x) }
 
       pub over-refused : {why : Refusal} → a ≡ Answer.Refused why → r ≡ numberOf why → OverLent sheet before before answers r
       over-refused {why} e n = go (rw e at hands)

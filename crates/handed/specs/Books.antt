@@ -14,13 +14,13 @@ use Rattle.sheet.specs.Entries.{ReadsHeader}
 -- what a sheet hands over, as an opening does: the book after all its actions, sound from its opening on, with 'done'; or the header's refusal,
 -- with a book of size 0 and no notices. `handed-once`: no second answer, and no second book.
 pub data HandsOver (sheet : List ℕ) (b : Book) : Answer → Type 0 where
-  makes : {n count : ℕ} → ReadsHeader sheet (Header.Sheet n count) → After sheet n count b → Sound b → HandsOver sheet b Answer.Done
+  makes : {n count version : ℕ} → ReadsHeader sheet (Header.Sheet n count version) → After sheet n count b → Sound b → HandsOver sheet b Answer.Done
   refuses : {why : Refusal} → ReadsHeader sheet (Header.Refused why) → b ≡ bookOf 0 [] → HandsOver sheet b (Answer.Refused why)
 
 -- an answer over the book that a sheet makes (`over-book`); "a sheet whose header is refused gives the header's number", and the lent memory is
 -- as it was (`over-header`)
 abbrev pub Over : (sheet before after : List ℕ) → (Book → ℕ → Type 0) → Header → ℕ → Type 0
-Over sheet before after answers (Header.Sheet n count) r = (b : Book) × After sheet n count b × answers b r
+Over sheet before after answers (Header.Sheet n count version) r = (b : Book) × After sheet n count b × answers b r
 Over sheet before after answers (Header.Refused why) r = (r ≡ numberOf why) × (after ≡ before)
 
 -- of an entry that is lent memory: `over-once` says that there is no second answer and no second memory

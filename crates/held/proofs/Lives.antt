@@ -20,7 +20,7 @@ use Rattle.changes.proofs.Runs.{run-on}
 use Rattle.changes.proofs.Reach.{opened-is}
 use Rattle.handed.specs.Books.{OverLent}
 use Rattle.handed.proofs.Once.{over-book}
-use Rattle.written.specs.Sheets.{sheetOf, mostWritten, writtenSays, WritesSheet}
+use Rattle.written.specs.Sheets.{versionFor, sheetOf, mostWritten, writtenSays, WritesSheet}
 use Rattle.written.proofs.Handing.{at-most-written}
 use Rattle.written.proofs.Since.{end-sound, sheet-stands-in}
 use Rattle.held.specs.Lives.{Asks, heldThen, Life, Life.opens, Life.asks}
@@ -34,7 +34,7 @@ module _ (n : ℕ) (legal : outsideSizes n ≡ false) where
   pub over-sheet-of : (changes : List Change) (before left : List ℕ) (answers : Book → ℕ → Type 0) (r : ℕ) → OverLent (sheetOf (end changes)) before left answers r → answers (end changes) r
   over-sheet-of changes before left answers r o =
       let s = sheet-stands-in n legal changes in
-      over-book (sheetOf (end changes)) before left answers r o n (length (standing (end changes))) (end changes) (s .0) (s .1)
+      over-book (sheetOf (end changes)) before left answers r o n (length (standing (end changes))) (versionFor (standing (end changes))) (end changes) (s .0) (s .1)
 
   pub end-fits : (changes : List Change) → length (sheetOf (end changes)) ≤ mostWritten
   end-fits changes = let s = end-sound n legal changes in at-most-written (end changes) (sound-if (end changes) (s .0) (s .1))

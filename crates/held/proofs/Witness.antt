@@ -19,7 +19,7 @@ use Rattle.book.specs.Entries.{openChecks, opened}
 use Rattle.changes.specs.Runs.{Change, changeChecks, changed, run}
 use Rattle.changes.proofs.Reach.{opened-is}
 use Rattle.written.specs.declared.Written.{Written}
-use Rattle.written.specs.Sheets.{sheetOf, mostWritten, writtenSays, WritesSheet}
+use Rattle.written.specs.Sheets.{versionFor, sheetOf, mostWritten, writtenSays, WritesSheet}
 use Rattle.written.proofs.Handing.{writes-refused, writes-fits}
 use Rattle.written.proofs.Since.{sheet-stands-in}
 use Rattle.handed.specs.Books.{OverLent}
@@ -68,7 +68,7 @@ module _ (n : ℕ) (legal : outsideSizes n ≡ false) (before : List ℕ) (enoug
     over-it : (answers : Book → ℕ → Type 0) (left : List ℕ) (r : ℕ) → answers b r → OverLent (sheetOf b) before left answers r
     over-it answers left r x =
         let s = sheet-stands-in n legal changes in
-        record { header = Header.Sheet n (length (standing b)); reads = s .0; over = (b, s .1, x) }
+        record { header = Header.Sheet n (length (standing b)) (versionFor (standing b)); reads = s .0; over = (b, s .1, x) }
 
     asked : (a : Change) (left : List ℕ) (r : ℕ) → Tells (WritesSheet (changeChecks a b) (changed a b) before left) writtenSays r → Asks (sheetOf b) a before left r
     asked a left r t = over-it _ left r t

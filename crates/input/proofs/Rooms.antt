@@ -1,22 +1,25 @@
 -- The longest sheet that the header accepts, the longest text, and what the front of a longer input answers.
-use mathlib.Core.Path.{_≡_, refl, _∙_}
+use mathlib.Core.Path.{_≡_, refl, sym, subst, _∙_}
 use mathlib.Core.Bool.{Bool, true, false, not}
+use mathlib.Core.Logic.{_⊎_, inl, inr}
 use mathlib.Core.List.{List, [], _∷_, _++_}
 use Prim.Native.Nat.{ℕ, _+_, _*_, _≤_, _<_}
 use native.Mathlib.Decide.{decLe}
 use native.Mathlib.Omega.{arith}
-use borrow.Author.Tests.{le-ltb, lt-ltb, ltb-false, eqb-true, not-false}
+use borrow.Author.Tests.{le-ltb, lt-ltb}
 use lib.Dec.{eqb}
 use lib.ListN.{length, take}
 use lib.Seq.{length-take-le, getD-take, take-all}
 use Rattle.table.specs.Reply.{refused}
 use Rattle.table.specs.Checks.{checked, _when_, _below_, Passed.none, Passed.passes}
-use Rattle.table.proofs.Checks.{passed-nth, neither, neither-of, one-of, other-of, unequal, equal}
+use Rattle.table.proofs.Checks.{passed-nth, neither-of, one-of, other-of, unequal, equal}
 use Rattle.fabric.specs.Labels.{outsideSizes}
 use Rattle.sheet.specs.declared.Header.{Header}
 use Rattle.actions.specs.Layout.{bytesBefore}
-use Rattle.sheet.specs.Format.{headerBytes, sizeIn, countIn}
+use Rattle.actions.proofs.Laid.{two-lengths}
+use Rattle.sheet.specs.Format.{headerBytes, versionIn, sizeIn, countIn, eachIn}
 use Rattle.sheet.specs.Entries.{headerSays, wrongMark, wrongLength, headerChecks, ReadsHeader}
+use Rattle.sheet.proofs.Meanings.{length-exactly}
 use Rattle.sheet.proofs.Promises.{header-accepts, header-passed}
 use Rattle.sheet.proofs.Sheets.{header-read}
 use Rattle.sheet.proofs.Cuts.{marks-agree}
@@ -24,23 +27,29 @@ use Rattle.printed.specs.Runs.{room, Prints}
 use Rattle.printed.proofs.Promises.{room-within}
 use Rattle.input.specs.Rooms.{longestSheet, inputRoom, textRoom}
 
--- a sheet that the header accepts is no longer than the longest,
-pub none-is-longer : {sheet : List ℕ} {n count : ℕ} → ReadsHeader sheet (Header.Sheet n count) → length sheet ≤ longestSheet
-none-is-longer {sheet} {n} {count} q =
-    let p = neither (4096 below countIn sheet) (not (eqb (length sheet) (bytesBefore (countIn sheet)))) (passed-nth (headerChecks sheet) 2 (header-passed q)) in
-    let few = ltb-false 4096 (countIn sheet) (p .0) in
-    let same = eqb-true (length sheet) (bytesBefore (countIn sheet)) (not-false (eqb (length sheet) (bytesBefore (countIn sheet))) (p .1)) in
-    omega arith
+-- whatever the version, so many actions have no more bytes than those of version 2
+few-enough : (sheet : List ℕ) → countIn sheet ≤ 4096 → bytesBefore (eachIn sheet) (countIn sheet) ≤ longestSheet
+few-enough sheet few = go (two-lengths (versionIn sheet))
+  where
+    go : (eachIn sheet ≡ 10) ⊎ (eachIn sheet ≡ 11) → bytesBefore (eachIn sheet) (countIn sheet) ≤ longestSheet
+    go (inl e) = rw e (omega arith)
+    go (inr e) = rw e (omega arith)
 
--- and every sheet of 4,096 actions is that long, and accepted
-pub longest-is-accepted : (n : ℕ) (actions : List ℕ) → 1 ≤ n → n ≤ 12 → length actions ≡ 10 * 4096
-    → (length (headerBytes n 4096 ++ actions) ≡ longestSheet) × ReadsHeader (headerBytes n 4096 ++ actions) (Header.Sheet n 4096)
+-- a sheet that the header accepts is no longer than the longest,
+pub none-is-longer : {sheet : List ℕ} {n count version : ℕ} → ReadsHeader sheet (Header.Sheet n count version) → length sheet ≤ longestSheet
+none-is-longer {sheet} q =
+    let w = length-exactly sheet .0 (passed-nth (headerChecks sheet) 2 (header-passed q)) in
+    subst (λ (m : ℕ). m ≤ longestSheet) (sym (w .1)) (few-enough sheet (w .0))
+
+-- and every sheet of version 2 with 4,096 actions is that long, and accepted
+pub longest-is-accepted : (n : ℕ) (actions : List ℕ) → 1 ≤ n → n ≤ 12 → length actions ≡ 11 * 4096
+    → (length (headerBytes 2 n 4096 ++ actions) ≡ longestSheet) × ReadsHeader (headerBytes 2 n 4096 ++ actions) (Header.Sheet n 4096 2)
 longest-is-accepted n actions some few e =
-    let sheet = headerBytes n 4096 ++ actions in
-    let long : length sheet ≡ bytesBefore 4096 = omega arith in
+    let sheet = headerBytes 2 n 4096 ++ actions in
+    let long : length sheet ≡ longestSheet = omega arith in
     let size : outsideSizes n ≡ false = neither-of (n below 1) (12 below n) (le-ltb n 1 some) (le-ltb 12 n few) in
     let whole : wrongLength sheet ≡ false = equal long in
-    (long, header-accepts (passes (header-read n 4096 actions .2) (passes size (passes whole none))) refl)
+    (long, header-accepts (passes (header-read 2 n 4096 actions (inr refl) .3) (passes size (passes whole none))) refl refl)
 
 -- no run asks for more room than that of the longest sheet
 pub text-fits : {sheet : List ℕ} (h : Header) → ReadsHeader sheet h → room h ≤ textRoom
@@ -54,10 +63,10 @@ length-is-wrong sheet long = go (decLe (countIn sheet) 4096)
     many = 4096 below countIn sheet
 
     other : Bool
-    other = not (eqb (length sheet) (bytesBefore (countIn sheet)))
+    other = not (eqb (length sheet) (bytesBefore (eachIn sheet) (countIn sheet)))
 
     go : Dec (countIn sheet ≤ 4096) → wrongLength sheet ≡ true
-    go (yes few) = other-of many other (le-ltb 4096 (countIn sheet) few) (unequal (λ (e : length sheet ≡ bytesBefore (countIn sheet)). omega arith))
+    go (yes few) = other-of many other (le-ltb 4096 (countIn sheet) few) (unequal (λ (e : length sheet ≡ bytesBefore (eachIn sheet) (countIn sheet)). let most = few-enough sheet few in omega arith))
     go (no more) = one-of many other (lt-ltb 4096 (countIn sheet) (omega arith))
 
 -- "14, 1, 15": such an input is refused, by its first eight bytes and for its length
@@ -83,7 +92,7 @@ front-answers input m h room reads = go (decLe (length input) m)
         record { says = reads .says ∙ rw (wrong, length-is-wrong input (omega arith), mark, size) }
 
 -- the front of an input that the header accepts is all of it
-pub front-is-all : (input : List ℕ) (m : ℕ) {n count : ℕ} → inputRoom ≤ m → ReadsHeader (take m input) (Header.Sheet n count) → take m input ≡ input
+pub front-is-all : (input : List ℕ) (m : ℕ) {n count version : ℕ} → inputRoom ≤ m → ReadsHeader (take m input) (Header.Sheet n count version) → take m input ≡ input
 front-is-all input m room reads = go (decLe (length input) m)
   where
     go : Dec (length input ≤ m) → take m input ≡ input
@@ -96,4 +105,4 @@ front-is-all input m room reads = go (decLe (length input) m)
 -- and what is printed of it is what is printed of all of it
 pub front-prints : (input : List ℕ) (m : ℕ) (h : Header) (text : List ℕ) → inputRoom ≤ m → ReadsHeader (take m input) h → Prints (take m input) h text → Prints input h text
 front-prints input m (Header.Refused why) text room reads p = p
-front-prints input m (Header.Sheet n count) text room reads p = rw (front-is-all input m room reads) at p
+front-prints input m (Header.Sheet n count version) text room reads p = rw (front-is-all input m room reads) at p

@@ -3,7 +3,7 @@ use actions::ACTION_LENGTH;
 use actions::HEADER_LENGTH;
 use printed::MOST_ROOM;
 
-// Memory for the input: the longest sheet that the header accepts, 4,096 actions of ten bytes, and one byte more.
+// Memory for the input: the longest sheet that the header accepts, 4,096 actions of eleven bytes, and one byte more.
 pub const INPUT_ROOM: usize = HEADER_LENGTH + ACTION_LENGTH * 4096 + 1;
 
 // Memory for the lines of the longest sheet.

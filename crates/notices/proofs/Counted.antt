@@ -16,7 +16,8 @@ use Rattle.table.specs.Checks.{_below_, _notBelow_}
 use Rattle.fabric.specs.Labels.{size}
 use Rattle.notices.specs.declared.Notice.{Notice}
 use Rattle.notices.specs.declared.Target.the-variants.{Links, Pattern}
-use Rattle.notices.specs.Targets.{setHas, badSet}
+use Rattle.notices.specs.Targets.{setHas, badSet, targetBad}
+use Rattle.notices.specs.Classes.{badClass}
 use Rattle.notices.specs.Notices.{names, badField, tooWide, unfit, howMany, switchesNamed}
 use Rattle.notices.proofs.Fit.{ones-below, two-ones, pattern-fit}
 
@@ -144,7 +145,9 @@ links-name-one n x stage switch s c is h has =
 -- a pattern that check 5 passes, at its stage, for each code of its set
 module _ (n : ℕ) (x : Notice) (stage value mask s c : ℕ) (is : x .target ≡ Pattern stage value mask s) (good : badField n x ≡ false) (has : setHas s c ≡ true) where
   tested : ((badSet s || mask notBelow size n) ≡ false) × (not (eqb (bitAnd value mask) value) ≡ false)
-  tested = neither (badSet s || mask notBelow size n) (not (eqb (bitAnd value mask) value)) (rw is at good)
+  tested =
+      let target : targetBad n (x .target) ≡ false = neither (targetBad n (x .target)) (badClass (x .class)) good .0 in
+      neither (badSet s || mask notBelow size n) (not (eqb (bitAnd value mask) value)) (rw is at target)
 
   small : mask < size n
   small = leb-false (size n) mask (neither (badSet s) (mask notBelow size n) (tested .0) .1)
@@ -189,5 +192,5 @@ one-stage-no-pattern x stage value mask s is = go (unfit 1 x) refl
     go false e =
         let w = pattern-fit 1 x stage value mask s is .0 e in
         let few = ones-le 1 mask (ones-below 1 mask .1 (w .3)) in
-        let many = two-ones mask .1 (w .5) in
+        let many = two-ones mask .1 (w .6) in
         absurd (omega arith)

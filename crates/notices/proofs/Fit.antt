@@ -18,8 +18,10 @@ use Rattle.fabric.proofs.Bits.{bit-lt}
 use Rattle.notices.specs.declared.Notice.{Notice}
 use Rattle.notices.specs.declared.Target.{Target}
 use Rattle.notices.specs.declared.Target.the-variants.{Links, Switch, Pattern}
-use Rattle.notices.specs.Targets.{badSet}
+use Rattle.notices.specs.Targets.{badSet, targetBad}
+use Rattle.notices.specs.Classes.{badClass}
 use Rattle.notices.specs.Notices.{outsideFabric, badField, tooWide, unfit}
+use Rattle.notices.proofs.Classes.{class-within}
 use Rattle.notices.proofs.Named.{below-power, mask-below, value-in-mask}
 
 -- two tests that both fail
@@ -32,6 +34,13 @@ all-pass n x =
     let o = both-fail (outsideFabric n x || badField n x) (tooWide x) in
     let p = both-fail (outsideFabric n x) (badField n x) in
     ((λ e. let w = o .0 e in let v = p .0 (w .0) in (v .0, v .1, w .1)), (λ w. o .1 (p .1 (w .0, w .1), w .2)))
+
+-- and 5 passes it where it passes its target and its class
+fields-pass : (n : ℕ) (x : Notice) → (badField n x ≡ false) ↔ ((targetBad n (x .target) ≡ false) × (x .class ≤ 1))
+fields-pass n x =
+    let o = both-fail (targetBad n (x .target)) (badClass (x .class)) in
+    let p = class-within (x .class) in
+    ((λ e. (o .0 e .0, p .0 (o .0 e .1))), (λ w. o .1 (w .0, p .1 (w .1))))
 
 -- 5: "set outside 1 to 7"
 pub set-within : (s : ℕ) → (badSet s ≡ false) ↔ ((1 ≤ s) × (s ≤ 7))
@@ -132,21 +141,24 @@ module _ (n : ℕ) (x : Notice) (stage switch s : ℕ) (is : x .target ≡ Links
       let o = both-fail (stage notBelow n) (switch notBelow size n) in
       rw is ((λ e. (leb-false n stage (o .0 e .0), leb-false (size n) switch (o .0 e .1))), (λ w. o .1 (lt-leb n stage (w .0), lt-leb (size n) switch (w .1))))
 
-  -- 5: "set outside 1 to 7"
-  pub links-in-fields : (badField n x ≡ false) ↔ ((1 ≤ s) × (s ≤ 7))
-  links-in-fields = rw is (set-within s)
+  -- 5: "set outside 1 to 7", or a class above 1
+  pub links-in-fields : (badField n x ≡ false) ↔ ((1 ≤ s) × (s ≤ 7) × (x .class ≤ 1))
+  links-in-fields =
+      let two = fields-pass n x in
+      let within : (targetBad n (x .target) ≡ false) ↔ ((1 ≤ s) × (s ≤ 7)) = rw is (set-within s) in
+      ((λ e. let w = two .0 e in let b = within .0 (w .0) in (b .0, b .1, w .1)), (λ w. two .1 (within .1 (w .0, w .1), w .2)))
 
   -- only a pattern can be too wide
   pub links-narrow : tooWide x ≡ false
   links-narrow = rw is refl
 
-  pub links-fit : (unfit n x ≡ false) ↔ ((stage < n) × (switch < 2 ^ n) × (1 ≤ s) × (s ≤ 7))
+  pub links-fit : (unfit n x ≡ false) ↔ ((stage < n) × (switch < 2 ^ n) × (1 ≤ s) × (s ≤ 7) × (x .class ≤ 1))
   links-fit =
       let three = all-pass n x in
       let f = links-in-fabric in
       let g = links-in-fields in (
-        (λ e. let w = three .0 e in let a = f .0 (w .0) in let b = g .0 (w .1) in (a .0, a .1, b .0, b .1)),
-        (λ w. three .1 (f .1 (w .0, w .1), g .1 (w .2, w .3), links-narrow)),
+        (λ e. let w = three .0 e in let a = f .0 (w .0) in let b = g .0 (w .1) in (a .0, a .1, b .0, b .1, b .2)),
+        (λ w. three .1 (f .1 (w .0, w .1), g .1 (w .2, w .3, w .4), links-narrow)),
       )
 
 -- "Switch: column 0 to n and switch"
@@ -156,18 +168,24 @@ module _ (n : ℕ) (x : Notice) (column switch : ℕ) (is : x .target ≡ Switch
       let o = both-fail (n below column) (switch notBelow size n) in
       rw is ((λ e. (ltb-false n column (o .0 e .0), leb-false (size n) switch (o .0 e .1))), (λ w. o .1 (le-ltb n column (w .0), lt-leb (size n) switch (w .1))))
 
-  -- a switch has no field that 5 judges
-  pub switch-in-fields : badField n x ≡ false
-  switch-in-fields = rw is refl
+  -- a switch has no field but its class that 5 judges
+  pub switch-in-fields : (badField n x ≡ false) ↔ (x .class ≤ 1)
+  switch-in-fields =
+      let two = fields-pass n x in
+      let none : targetBad n (x .target) ≡ false = rw is refl in
+      ((λ e. two .0 e .1), (λ h. two .1 (none, h)))
 
   pub switch-narrow : tooWide x ≡ false
   switch-narrow = rw is refl
 
-  pub switch-fit : (unfit n x ≡ false) ↔ ((column ≤ n) × (switch < 2 ^ n))
+  pub switch-fit : (unfit n x ≡ false) ↔ ((column ≤ n) × (switch < 2 ^ n) × (x .class ≤ 1))
   switch-fit =
       let three = all-pass n x in
       let f = switch-in-fabric in
-      ((λ e. f .0 (three .0 e .0)), (λ w. three .1 (f .1 w, switch-in-fields, switch-narrow)))
+      let g = switch-in-fields in (
+        (λ e. let w = three .0 e in let a = f .0 (w .0) in (a .0, a .1, g .0 (w .1))),
+        (λ w. three .1 (f .1 (w .0, w .1), g .1 (w .2), switch-narrow)),
+      )
 
 -- "Pattern: stage, value, mask, set"; "Mask bits lie below n and the value has no one outside the mask"; two ones or more
 module _ (n : ℕ) (x : Notice) (stage value mask s : ℕ) (is : x .target ≡ Pattern stage value mask s) where
@@ -176,9 +194,9 @@ module _ (n : ℕ) (x : Notice) (stage value mask s : ℕ) (is : x .target ≡ P
   pattern-in-fabric = rw is ((λ e. leb-false n stage e), (λ h. lt-leb n stage h))
 
   -- 5: "set outside 1 to 7, mask bit at n or above, value outside the mask"
-  pub pattern-in-fields : (badField n x ≡ false)
+  pattern-in-target : (targetBad n (x .target) ≡ false)
       ↔ ((1 ≤ s) × (s ≤ 7) × ((k : ℕ) → bit k mask ≡ 1 → k < n) × ((k : ℕ) → bit k value ≡ 1 → bit k mask ≡ 1))
-  pattern-in-fields =
+  pattern-in-target =
       let o = both-fail (badSet s || mask notBelow size n) (not (eqb (bitAnd value mask) value)) in
       let p = both-fail (badSet s) (mask notBelow size n) in
       rw is (
@@ -188,6 +206,16 @@ module _ (n : ℕ) (x : Notice) (stage value mask s : ℕ) (is : x .target ≡ P
             let u = set-within s .0 (v .0) in
             (u .0, u .1, ones-below n mask .0 (leb-false (size n) mask (v .1)), value-in-mask value mask .0 (eqb-true (bitAnd value mask) value (not-false (eqb (bitAnd value mask) value) (w .1))))),
         (λ w. o .1 (p .1 (set-within s .1 (w .0, w .1), lt-leb (size n) mask (ones-below n mask .1 (w .2))), equal (value-in-mask value mask .1 (w .3)))),
+      )
+
+  -- or a class above 1
+  pub pattern-in-fields : (badField n x ≡ false)
+      ↔ ((1 ≤ s) × (s ≤ 7) × ((k : ℕ) → bit k mask ≡ 1 → k < n) × ((k : ℕ) → bit k value ≡ 1 → bit k mask ≡ 1) × (x .class ≤ 1))
+  pattern-in-fields =
+      let two = fields-pass n x in
+      let within = pattern-in-target in (
+        (λ e. let w = two .0 e in let b = within .0 (w .0) in (b .0, b .1, b .2, b .3, w .1)),
+        (λ w. two .1 (within .1 (w .0, w .1, w .2, w .3), w .4)),
       )
 
   -- 6: "A mask with fewer than two ones is too wide": it is not where two different places of the mask are ones
@@ -202,20 +230,25 @@ module _ (n : ℕ) (x : Notice) (stage value mask s : ℕ) (is : x .target ≡ P
       × (s ≤ 7)
       × ((k : ℕ) → bit k mask ≡ 1 → k < n)
       × ((k : ℕ) → bit k value ≡ 1 → bit k mask ≡ 1)
+      × (x .class ≤ 1)
       × ((j : ℕ) × (k : ℕ) × (j < k) × (bit j mask ≡ 1) × (bit k mask ≡ 1)))
   pattern-fit =
       let three = all-pass n x in
       let g = pattern-in-fields in (
-        (λ e. let w = three .0 e in let b = g .0 (w .1) in (pattern-in-fabric .0 (w .0), b .0, b .1, b .2, b .3, pattern-narrow .0 (w .2))),
-        (λ w. three .1 (pattern-in-fabric .1 (w .0), g .1 (w .1, w .2, w .3, w .4), pattern-narrow .1 (w .5))),
+        (λ e. let w = three .0 e in let b = g .0 (w .1) in (pattern-in-fabric .0 (w .0), b .0, b .1, b .2, b .3, b .4, pattern-narrow .0 (w .2))),
+        (λ w. three .1 (pattern-in-fabric .1 (w .0), g .1 (w .1, w .2, w .3, w .4, w .5), pattern-narrow .1 (w .6))),
       )
 
 -- the filings of 01's example, n = 3: three notices that are accepted, and one that is refused with 6
 abbrev filing : ℕ → Target → Notice
-filing k t = record { number = k; target = t }
+filing k t = record { number = k; target = t; class = 0 }
 
 pub example-filings :
     unfit 3 (filing 7 (Links 0 1 4)) ∷ unfit 3 (filing 8 (Pattern 0 1 3 4)) ∷ unfit 3 (filing 10 (Switch 1 2)) ∷ tooWide (filing 9 (Pattern 0 1 1 7)) ∷ []
     ≡ false ∷ false ∷ false ∷ true ∷ []
 unfolding ones onesIn
 example-filings = refl
+
+-- whatever its target, a notice that filing accepts is broken or busy
+pub fit-class : (n : ℕ) (x : Notice) → unfit n x ≡ false → x .class ≤ 1
+fit-class n x e = fields-pass n x .0 (all-pass n x .0 e .1) .1

@@ -1,4 +1,5 @@
--- which links a notice names, how many switches a pattern names, and what filing accepts
+-- classes, which links a notice names, how many switches a pattern names, and what filing accepts
+pub mod Classes
 pub mod Sets
 pub mod Named
 pub mod Counted

@@ -76,12 +76,12 @@ switch-names-once n f zeroth others column w i j c = go (ℕ-discrete column 0)
     same false true to back = back refl
     same false false to back = refl
 
-    ours : (names n (record { number = 1; target = Switch 0 w }) i j c ≡ true) ↔ ((i ≡ 0) × (j ≡ w))
-    ours = column-0-names-outputs n (record { number = 1; target = Switch 0 w }) w i j c refl
+    ours : (names n (record { number = 1; target = Switch 0 w; class = 0 }) i j c ≡ true) ↔ ((i ≡ 0) × (j ≡ w))
+    ours = column-0-names-outputs n (record { number = 1; target = Switch 0 w; class = 0 }) w i j c refl
 
     go : Dec (column ≡ 0) → f column w i j c ≡ targetNames n (Switch column w) i j c
     go (yes e) = rw e (same (f 0 w i j c) (targetNames n (Switch 0 w) i j c) (λ h. ours .1 (zeroth w i j c .0 h)) (λ h. zeroth w i j c .1 (ours .0 h)))
-    go (no e) = others column w i j c e ∙ sym (other-columns-as-before n (record { number = 1; target = Switch column w }) column w i j c refl e)
+    go (no e) = others column w i j c e ∙ sym (other-columns-as-before n (record { number = 1; target = Switch column w; class = 0 }) column w i j c refl e)
 
 -- in such a column a switch notice names links of the stage before it alone
 pub switch-names-before : (n : ℕ) (x : Notice) (column w i j c : ℕ) → x .target ≡ Switch column w → (column ≡ 0 → ⊥) → names n x i j c ≡ true → i + 1 ≡ column

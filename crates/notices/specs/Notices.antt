@@ -1,8 +1,9 @@
--- Document 01, 'Notices' and 'Numbers handed back': which links a notice names, and when filing refuses it.
+-- Document 01, 'Notices' and 'Numbers handed back', and document 02, §5: which links a notice names, and when filing refuses it.
 use mathlib.Core.Bool.{Bool, cond, _||_}
 use Prim.Native.Nat.{ℕ, zero, suc, _+_}
 use Rattle.fabric.specs.Labels.{size}
 use Rattle.notices.specs.declared.Notice.{Notice}
+use Rattle.notices.specs.Classes.{badClass}
 use Rattle.notices.specs.Targets.{targetNames, targetOutside, targetBad, targetWide}
 
 -- Whether a notice names the link of code c that leaves switch j at stage i of a fabric of n stages: where its target does.
@@ -19,9 +20,10 @@ names n x i j c = targetNames n (x .target) i j c
 abbrev pub outsideFabric : ℕ → Notice → Bool
 outsideFabric n x = targetOutside n (x .target)
 
--- 5. `links-in-fields`, `switch-in-fields` and `pattern-in-fields` say by numbers and bits when it is not given (proofs/Fit).
+-- 5, of the target, and document 02, §5: "a class above 1 .. is 5". `links-in-fields`, `switch-in-fields` and `pattern-in-fields` say by numbers and
+-- bits when it is not given (proofs/Fit).
 abbrev pub badField : ℕ → Notice → Bool
-badField n x = targetBad n (x .target)
+badField n x = targetBad n (x .target) || badClass (x .class)
 
 -- 6. `pattern-narrow` says that two different bits of any other mask are ones (proofs/Fit); `too-wide-names-half` and
 -- `narrow-names-quarter` say what it means in switches (proofs/Counted).

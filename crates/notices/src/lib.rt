@@ -1,4 +1,5 @@
-// Document 01, 'Notices': a notice and its target. Which links it names and when filing refuses it is defined in specs/; there is no code here.
+// Document 01, 'Notices', and document 02, §5: a notice, its target and its class. Which links it names, when filing refuses it and which routes
+// count it is defined in specs/; there is no code here.
 
 // One of the three targets of a notice.
 pub enum Target {
@@ -19,7 +20,9 @@ pub enum Target {
     },
 }
 
+// Its class is 0 where its links are broken, and 1 where they are only busy.
 pub struct Notice {
     pub number: u16,
     pub target: Target,
+    pub class: u8,
 }

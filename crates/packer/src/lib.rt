@@ -18,10 +18,10 @@ ghost use Rattle.questions.specs.Entries.{linkSays, listingSays};
 ghost use Rattle.walks.specs.Entries.{walkSays};
 ghost use Rattle.written.specs.Sheets.{writtenSays};
 ghost use Rattle.routes.specs.Routed.{routeSays};
-ghost use Rattle.sheet.specs.Entries.{headerSays};
 ghost use Rattle.printed.specs.Runs.{mostRoom, ranSays};
 ghost use Rattle.table.specs.Numbers.{numberOf};
 ghost use Rattle.packing.specs.Packed.{byte, valueOf, packed};
+ghost use Rattle.packer.specs.Headers.{headerTold};
 
 // What fits a byte.
 pub const BYTE: u64 = 256;
@@ -116,11 +116,14 @@ pub fn found(answer: Found) -> u64
     }
 }
 
+// n in the low byte of the value, the count from bit 8 on, the version from bit 24 on.
 pub fn header_told(answer: Header) -> u64
-    ensures { λ r. ⌜ r ≡ packed (headerSays answer) ⌝ }
+    ensures { λ r. ⌜ r ≡ packed (headerTold answer) ⌝ }
 {
     match answer {
-        Header::Sheet { n, count } => value(n as u64 + BYTE * count as u64),
+        Header::Sheet { n, count, version } => {
+            value(n as u64 + BYTE * count as u64 + BYTE * BYTE * BYTE * version as u64)
+        }
         Header::Refused(why) => refused(why),
     }
 }

@@ -14,8 +14,9 @@ use Rattle.table.specs.Reply.{Reply, refused}
 use Rattle.table.specs.Checks.{numbers, Given, Given.here, Passed, Passed.none, Passed.passes, _below_}
 use Rattle.table.proofs.Checks.{given-refuses, passed-accepts, given-or-passed, passed-nth, neither, neither-of, equal}
 use Rattle.packing.specs.Packed.{packed, Tells}
-use Rattle.packing.proofs.Once.{tells-once}
+use Rattle.packing.proofs.Once.{tells-all, tells-once}
 use Rattle.book.specs.declared.Book.{Book}
+use Rattle.routes.specs.declared.Found.{Found}
 use Rattle.routes.specs.Routed.{routeSays, Routes}
 use Rattle.routes.proofs.Entries.{route-once}
 use Rattle.pairs.specs.Answered.{sourceOf, destinationOf, Answered}
@@ -46,30 +47,36 @@ pairs-pass pairs memory = (to, from)
         let even : leftOver pairs ≡ 0 = omega arith in
         passes (neither-of (not (eqb (leftOver pairs) 0)) (length memory below pairsIn pairs) (equal even) (le-ltb (length memory) (pairsIn pairs) room)) none
 
+-- each answer is the one that a route between the pair's labels has, with this choice
+pub answer-of-pair : (b : Book) (choice : ℕ) (pairs : List ℕ) (count : ℕ) (before after : List ℕ) → Answered b choice pairs count before after → (k : ℕ) → k < count
+    → (a : Found) → Routes b (sourceOf pairs k) (destinationOf pairs k) choice a → getD after k 0 ≡ packed (routeSays a)
+answer-of-pair b choice pairs count before after v k h a r =
+    tells-all (Routes b (sourceOf pairs k) (destinationOf pairs k) choice) routeSays (route-once b (sourceOf pairs k) (destinationOf pairs k) choice) (getD after k 0) (v .answers k h) a r
+
 -- one memory
-pub answered-once : (b : Book) (pairs : List ℕ) (count : ℕ) (before after later : List ℕ) → Answered b pairs count before after → Answered b pairs count before later → after ≡ later
-answered-once b pairs count before after later v w = ext-getD 0 after later (v .as-long ∙ sym (w .as-long)) (λ k h. go k (decLt k count))
+pub answered-once : (b : Book) (choice : ℕ) (pairs : List ℕ) (count : ℕ) (before after later : List ℕ) → Answered b choice pairs count before after → Answered b choice pairs count before later → after ≡ later
+answered-once b choice pairs count before after later v w = ext-getD 0 after later (v .as-long ∙ sym (w .as-long)) (λ k h. go k (decLt k count))
   where
     go : (k : ℕ) → Dec (k < count) → getD after k 0 ≡ getD later k 0
     go k (yes h) =
-        tells-once (Routes b (sourceOf pairs k) (destinationOf pairs k)) routeSays (route-once b (sourceOf pairs k) (destinationOf pairs k)) _ _ (v .answers k h) (w .answers k h)
+        tells-once (Routes b (sourceOf pairs k) (destinationOf pairs k) choice) routeSays (route-once b (sourceOf pairs k) (destinationOf pairs k) choice) _ _ (v .answers k h) (w .answers k h)
     go k (no h) = v .stays k (omega arith) ∙ sym (w .stays k (omega arith))
 
 -- no second answer, and no second memory
-pub pairs-once : (b : Book) (pairs before after later : List ℕ) (q r : ℕ) → RoutesPairs b pairs before after q → RoutesPairs b pairs before later r → (q ≡ r) × (after ≡ later)
-pairs-once b pairs before after later q r v w = (v .says ∙ sym (w .says), go (given-or-passed (pairsChecks pairs before)))
+pub pairs-once : (b : Book) (choice : ℕ) (pairs before after later : List ℕ) (q r : ℕ) → RoutesPairs b choice pairs before after q → RoutesPairs b choice pairs before later r → (q ≡ r) × (after ≡ later)
+pairs-once b choice pairs before after later q r v w = (v .says ∙ sym (w .says), go (given-or-passed (pairsChecks pairs before)))
   where
     go : ((k : ℕ) × Given k (pairsChecks pairs before)) ⊎ Passed (pairsChecks pairs before) → after ≡ later
     go (inl g) = v .refuses (g .0) (g .1) ∙ sym (w .refuses (g .0) (g .1))
-    go (inr p) = answered-once b pairs (pairsIn pairs) before after later (v .routes p) (w .routes p)
+    go (inr p) = answered-once b choice pairs (pairsIn pairs) before after later (v .routes p) (w .routes p)
 
-module _ (b : Book) (pairs before after : List ℕ) (r : ℕ) (v : RoutesPairs b pairs before after r) where
+module _ (b : Book) (choice : ℕ) (pairs before after : List ℕ) (r : ℕ) (v : RoutesPairs b choice pairs before after r) where
   -- 0 and the answers, where there are whole pairs and room for them
-  pub pairs-answered : (count : ℕ) → length pairs ≡ 2 * count → count ≤ length before → (r ≡ 0) × Answered b pairs count before after
+  pub pairs-answered : (count : ℕ) → length pairs ≡ 2 * count → count ≤ length before → (r ≡ 0) × Answered b choice pairs count before after
   pairs-answered count whole room =
       let e : pairsIn pairs ≡ count = omega arith in
       let p = pairs-pass pairs before .1 (omega arith, omega arith) in
-      (v .says ∙ ap packed (passed-accepts refused (Reply.accepted []) (pairsChecks pairs before) p), subst (λ k. Answered b pairs k before after) e (v .routes p))
+      (v .says ∙ ap packed (passed-accepts refused (Reply.accepted []) (pairsChecks pairs before) p), subst (λ k. Answered b choice pairs k before after) e (v .routes p))
 
   -- 13 and the memory as it was, where there are not
   pub pairs-unanswered : ((count : ℕ) → length pairs ≡ 2 * count → count ≤ length before → ⊥) → (r ≡ 13) × (after ≡ before)

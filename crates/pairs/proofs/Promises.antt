@@ -20,22 +20,22 @@ use Rattle.pairs.specs.Answered.{sourceOf, destinationOf, Answered}
 use Rattle.pairs.specs.Pairs.{pairsIn, leftOver, pairsChecks, RoutesPairs}
 use Rattle.pairs.proofs.Pairs.{pairs-pass}
 
-module _ {b : Book} {pairs : List ℕ} where
-  pub none-answered : (memory : List ℕ) → Answered b pairs 0 memory memory
+module _ {b : Book} {choice : ℕ} {pairs : List ℕ} where
+  pub none-answered : (memory : List ℕ) → Answered b choice pairs 0 memory memory
   none-answered memory = record { as-long = refl; answers = λ k h. absurd (omega arith); stays = λ k h. refl }
 
-  pub one-more : {before after : List ℕ} {j r : ℕ} → Answered b pairs j before after → j < length after
-      → Tells (Routes b (sourceOf pairs j) (destinationOf pairs j)) routeSays r → Answered b pairs (j + 1) before (set after j r)
+  pub one-more : {before after : List ℕ} {j r : ℕ} → Answered b choice pairs j before after → j < length after
+      → Tells (Routes b (sourceOf pairs j) (destinationOf pairs j) choice) routeSays r → Answered b choice pairs (j + 1) before (set after j r)
   one-more {before} {after} {j} {r} v room t = record { as-long = length-set after j r ∙ v .as-long; answers = λ k h. go k h (decLt k j); stays = other }
     where
-      go : (k : ℕ) → k < j + 1 → Dec (k < j) → Tells (Routes b (sourceOf pairs k) (destinationOf pairs k)) routeSays (getD (set after j r) k 0)
+      go : (k : ℕ) → k < j + 1 → Dec (k < j) → Tells (Routes b (sourceOf pairs k) (destinationOf pairs k) choice) routeSays (getD (set after j r) k 0)
       go k h (yes l) =
           let differ : k ≢ j = λ e. omega arith in
-          subst (Tells (Routes b (sourceOf pairs k) (destinationOf pairs k)) routeSays) (sym (getD-set-other after j k r 0 differ)) (v .answers k l)
+          subst (Tells (Routes b (sourceOf pairs k) (destinationOf pairs k) choice) routeSays) (sym (getD-set-other after j k r 0 differ)) (v .answers k l)
       go k h (no l) =
           let same : j ≡ k = omega arith in
-          subst (λ i. Tells (Routes b (sourceOf pairs i) (destinationOf pairs i)) routeSays (getD (set after j r) i 0)) same
-          (subst (Tells (Routes b (sourceOf pairs j) (destinationOf pairs j)) routeSays) (sym (getD-set-same after j r 0 room)) t)
+          subst (λ i. Tells (Routes b (sourceOf pairs i) (destinationOf pairs i) choice) routeSays (getD (set after j r) i 0)) same
+          (subst (Tells (Routes b (sourceOf pairs j) (destinationOf pairs j) choice) routeSays) (sym (getD-set-same after j r 0 room)) t)
 
       other : (k : ℕ) → j + 1 ≤ k → getD (set after j r) k 0 ≡ getD before k 0
       other k h =
@@ -43,7 +43,7 @@ module _ {b : Book} {pairs : List ℕ} where
           getD-set-other after j k r 0 differ ∙ v .stays k (omega arith)
 
   -- 13, where the lengths do not pass
-  thirteen : {memory : List ℕ} {r : ℕ} → Given 13 (pairsChecks pairs memory) → r ≡ 13 → RoutesPairs b pairs memory memory r
+  thirteen : {memory : List ℕ} {r : ℕ} → Given 13 (pairsChecks pairs memory) → r ≡ 13 → RoutesPairs b choice pairs memory memory r
   thirteen {memory} g e =
       record {
         says = e ∙ ap packed (sym (given-refuses refused (Reply.accepted []) 13 (pairsChecks pairs memory) g));
@@ -51,14 +51,14 @@ module _ {b : Book} {pairs : List ℕ} where
         routes = λ p. absurd (not-given-and-passed 13 (pairsChecks pairs memory) g p);
       }
 
-  pub odd-refused : {memory : List ℕ} {r : ℕ} → (leftOver pairs ≡ 0 → ⊥) → r ≡ 13 → RoutesPairs b pairs memory memory r
+  pub odd-refused : {memory : List ℕ} {r : ℕ} → (leftOver pairs ≡ 0 → ⊥) → r ≡ 13 → RoutesPairs b choice pairs memory memory r
   odd-refused {memory} h e = thirteen (here (ap (λ x. x || length memory below pairsIn pairs) (unequal h)) refl) e
 
-  pub few-refused : {memory : List ℕ} {r : ℕ} → leftOver pairs ≡ 0 → length memory < pairsIn pairs → r ≡ 13 → RoutesPairs b pairs memory memory r
+  pub few-refused : {memory : List ℕ} {r : ℕ} → leftOver pairs ≡ 0 → length memory < pairsIn pairs → r ≡ 13 → RoutesPairs b choice pairs memory memory r
   few-refused {memory} even h e = thirteen (here (rw (equal even, lt-ltb (length memory) (pairsIn pairs) h)) refl) e
 
-  pub all-answered : {before after : List ℕ} → length pairs ≡ 2 * pairsIn pairs → pairsIn pairs ≤ length before → Answered b pairs (pairsIn pairs) before after
-      → RoutesPairs b pairs before after 0
+  pub all-answered : {before after : List ℕ} → length pairs ≡ 2 * pairsIn pairs → pairsIn pairs ≤ length before → Answered b choice pairs (pairsIn pairs) before after
+      → RoutesPairs b choice pairs before after 0
   all-answered {before} whole room v =
       let p = pairs-pass pairs before .1 (whole, room) in
       record {

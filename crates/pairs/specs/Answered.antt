@@ -14,8 +14,8 @@ sourceOf pairs k = getD pairs (2 * k) 0
 abbrev pub destinationOf : List ℕ → ℕ → ℕ
 destinationOf pairs k = getD pairs (2 * k + 1) 0
 
--- answer k is that of pair k, as one route packs it, and the rest stays: `answered-once`
-pub record Answered (b : Book) (pairs : List ℕ) (count : ℕ) (before after : List ℕ) : Type 0 where
+-- answer k is that of pair k, with the choice that is one for all, as one route packs it (`answer-of-pair`), and the rest stays: `answered-once`
+pub record Answered (b : Book) (choice : ℕ) (pairs : List ℕ) (count : ℕ) (before after : List ℕ) : Type 0 where
   pub as-long : length after ≡ length before
-  pub answers : (k : ℕ) → k < count → Tells (Routes b (sourceOf pairs k) (destinationOf pairs k)) routeSays (getD after k 0)
+  pub answers : (k : ℕ) → k < count → Tells (Routes b (sourceOf pairs k) (destinationOf pairs k) choice) routeSays (getD after k 0)
   pub stays : (k : ℕ) → count ≤ k → getD after k 0 ≡ getD before k 0

@@ -24,7 +24,7 @@ abbrev pub pairsChecks : List ℕ → List ℕ → List Check
 pairsChecks pairs memory = (13 when (not (eqb (leftOver pairs) 0) || length memory below pairsIn pairs)) ∷ []
 
 -- 0, and each pair's answer in the memory; or 13, and the memory as it was. `pairs-once`: no second answer, and no second memory.
-pub record RoutesPairs (b : Book) (pairs before after : List ℕ) (r : ℕ) : Type 0 where
+pub record RoutesPairs (b : Book) (choice : ℕ) (pairs before after : List ℕ) (r : ℕ) : Type 0 where
   pub says : r ≡ packed (checked (pairsChecks pairs before) refused (Reply.accepted []))
   pub refuses : (k : ℕ) → Given k (pairsChecks pairs before) → after ≡ before
-  pub routes : Passed (pairsChecks pairs before) → Answered b pairs (pairsIn pairs) before after
+  pub routes : Passed (pairsChecks pairs before) → Answered b choice pairs (pairsIn pairs) before after

@@ -1,5 +1,5 @@
 // Document 01, 'Notices': notices in the places of an array, by rising number, and what an unused place holds.
-mod rows; // rows.rt: the listing's bytes
+mod rows; // rows.rt: the bytes of a listing, and of a sheet's filings
 
 use notices::Notice;
 use notices::Target;
@@ -10,6 +10,8 @@ ghost use mathlib.Core.List.{[]};
 ghost use Prim.Native.Nat.{_+_, _-_, _≤_, _<_};
 ghost use lib.ListN.{take, drop, replicate};
 ghost use lib.Seq.{paste};
+ghost use Rattle.notices.specs.Classes.{busy};
+ghost use Rattle.standing.specs.Picked.{some};
 ghost use Rattle.standing.specs.Rising.{filler, inPlaces, stands, insert, without, Filed};
 ghost use Rattle.places.specs.Places.{placeOf};
 
@@ -24,6 +26,7 @@ fn filler() -> Notice
             switch: 0,
             set: 0,
         },
+        class: 0,
     }
 }
 
@@ -44,6 +47,22 @@ pub fn stands(notices: [Notice; 48], count: usize, k: u16) -> bool
     while i < count {
         let x = notices[i];
         if x.number == k {
+            return true;
+        }
+        i += 1;
+    }
+    false
+}
+
+// Whether one of the first `count` notices is busy.
+pub fn busy_stands(notices: [Notice; 48], count: usize) -> bool
+    requires { ⌜ count ≤ 48 ⌝ }
+    ensures { λ r. ⌜ r ≡ some busy (take count notices) ⌝ }
+{
+    let mut i = 0;
+    while i < count {
+        let x = notices[i];
+        if x.class == 1 {
             return true;
         }
         i += 1;

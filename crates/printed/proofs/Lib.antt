@@ -18,3 +18,5 @@ pub mod LineEnds
 pub mod Promises
 -- no sheet has a second text
 pub mod RunOnce
+-- both versions of the sheet print the same
+pub mod Versions

@@ -48,8 +48,8 @@ refused-ends : (why : Refusal) → OneLine (refusedSheet why)
 refused-ends why = line-feed-last SHEET (refusal why) (ten-are-words .0) (refusal-in-words why)
 
 pub text-lines : (sheet : List ℕ) (h : Header) (text : List ℕ) → Prints sheet h text → lineEnds text ≡ linesOf h
-text-lines sheet (Header.Sheet n count) text p =
-    let w = first-line sheet n count text p in
+text-lines sheet (Header.Sheet n count version) text p =
+    let w = first-line sheet n count version text p in
     let e = ap lineEnds (w .2) ∙ ends-append (sheetLine n count) (w .0) in
     let first = one-end (first-ends n count) in
     let rest = line-for-each (w .1) in
@@ -64,7 +64,7 @@ lines-closed {n = n} (more {text = text} {next = next} {b = b} v made p) =
     inr (text ++ one .before, ap (λ (l : List ℕ). text ++ l) (one .closed) ∙ sym (append-assoc text (one .before) (10 ∷ [])))
 
 pub text-closed : (sheet : List ℕ) (h : Header) (text : List ℕ) → Prints sheet h text → (front : List ℕ) × (text ≡ front ++ 10 ∷ [])
-text-closed sheet (Header.Sheet n count) text p = go (first-line sheet n count text p)
+text-closed sheet (Header.Sheet n count version) text p = go (first-line sheet n count version text p)
   where
     end : (lines : List ℕ) → (lines ≡ []) ⊎ ((front : List ℕ) × (lines ≡ front ++ 10 ∷ [])) → (front : List ℕ) × (sheetLine n count ++ lines ≡ front ++ 10 ∷ [])
     end lines (inl e) = (first-ends n count .before, ap (λ (l : List ℕ). sheetLine n count ++ l) e ∙ append-nil (sheetLine n count) ∙ first-ends n count .closed)

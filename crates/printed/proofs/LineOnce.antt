@@ -11,7 +11,7 @@ use Rattle.printed.proofs.Answered.{filing-line, withdrawing-line, rout
 pub line-once : (n : ℕ) (b : Book) (a : Action) (x y : List ℕ) → LineOf n b a x → LineOf n b a y → x ≡ y
 line-once n b (Action.File z) x y p q = filing-line n b x z (q .0) (q .1) p ∙ sym (filing-line n b y z (q .0) (q .1) q)
 line-once n b (Action.Withdraw k) x y p q = withdrawing-line n b x k (q .0) (q .1) p ∙ sym (withdrawing-line n b y k (q .0) (q .1) q)
-line-once n b (Action.Route s t) x y p q = routing-line n b x s t (q .0) (q .1) p ∙ sym (routing-line n b y s t (q .0) (q .1) q)
+line-once n b (Action.Route s t choice) x y p q = routing-line n b x s t choice (q .0) (q .1) p ∙ sym (routing-line n b y s t choice (q .0) (q .1) q)
 line-once n b (Action.Refused why) x y p q = p ∙ sym q
 
 pub line-at-once : (n : ℕ) (b : Book) (part x y : List ℕ) → LineAt n b part x → LineAt n b part y → x ≡ y

@@ -14,7 +14,7 @@ use Rattle.table.specs.Checks.{Given, Passed, Passed.none, Passed.passes, _belo
 use Rattle.table.proofs.Checks.{given-or-passed, given-once, not-given-and-passed, passed-nth, neither, zero-one}
 use Rattle.sheet.specs.declared.Header.{Header}
 use Rattle.actions.specs.Layout.{bytesBefore}
-use Rattle.sheet.specs.Format.{sizeIn, countIn}
+use Rattle.sheet.specs.Format.{countIn, eachIn}
 use Rattle.sheet.specs.Entries.{headerChecks, ReadsHeader}
 use Rattle.sheet.proofs.Promises.{header-passed, header-fields}
 use Rattle.printed.specs.declared.Ran.{Ran}
@@ -46,8 +46,8 @@ runs-as {told = told} reads e w = record { header = told; reads = rw e at reads;
 
 -- no header that is accepted asks for more room than 4,096 actions do
 pub room-within : {sheet : List ℕ} (h : Header) → ReadsHeader sheet h → room h ≤ mostRoom
-room-within {sheet} (Header.Sheet n count) q =
-    let l = neither (4096 below countIn sheet) (not (eqb (length sheet) (bytesBefore (countIn sheet)))) (passed-nth (headerChecks sheet) 2 (header-passed q)) .0 in
+room-within {sheet} (Header.Sheet n count version) q =
+    let l = neither (4096 below countIn sheet) (not (eqb (length sheet) (bytesBefore (eachIn sheet) (countIn sheet)))) (passed-nth (headerChecks sheet) 2 (header-passed q)) .0 in
     let few = ltb-false 4096 (countIn sheet) l in
     let same = header-fields q .1 in
     omega arith

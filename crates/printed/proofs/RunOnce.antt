@@ -27,7 +27,7 @@ lines-once sheet n k x y (more {k = j} {text = text₁} {next = next₁} {b = b�
     ap₂ (λ (s t : List ℕ). s ++ t) (lines-once sheet n j text₁ text₂ v w) (line-at-once n b₂ _ next₁ next₂ (rw e at p) q)
 
 pub prints-once : (sheet : List ℕ) (h : Header) (x y : List ℕ) → Prints sheet h x → Prints sheet h y → x ≡ y
-prints-once sheet (Header.Sheet n count) x y p q =
+prints-once sheet (Header.Sheet n count version) x y p q =
     p .2 ∙ ap (λ (l : List ℕ). sheetLine n count ++ l) (lines-once sheet n count (p .0) (q .0) (p .1) (q .1)) ∙ sym (q .2)
 prints-once sheet (Header.Refused why) x y p q = p ∙ sym q
 

@@ -41,8 +41,8 @@ thirteen-exactly header memory = (short, λ h. here (lt-ltb (length memory) (roo
         go (no h) = absurd (not-given-and-passed 13 (runChecks header memory) g (passes (le-ltb (length memory) (room header) (omega arith)) none))
 
 -- 24 bytes, and 48 more for each action
-pub room-grows : (n count : ℕ) (why : Refusal) → (room (Header.Refused why) ≡ 24) × (room (Header.Sheet n 0) ≡ 24) × (room (Header.Sheet n (suc count)) ≡ room (Header.Sheet n count) + 48)
-room-grows n count why = (refl, refl, omega arith)
+pub room-grows : (n count version : ℕ) (why : Refusal) → (room (Header.Refused why) ≡ 24) × (room (Header.Sheet n 0 version) ≡ 24) × (room (Header.Sheet n (suc count) version) ≡ room (Header.Sheet n count version) + 48)
+room-grows n count version why = (refl, refl, omega arith)
 
 -- no refusal has number 0, and what is accepted is a length
 pub ran-numbered : (a : Ran) → Numbered (ranSays a)
@@ -68,9 +68,9 @@ pub refused-text : (sheet : List ℕ) (why : Refusal) (text : List ℕ) → Prin
 refused-text sheet why text p = p
 
 -- "SHEET n count", and the lines of as many actions
-pub first-line : (sheet : List ℕ) (n count : ℕ) (text : List ℕ) → Prints sheet (Header.Sheet n count) text
+pub first-line : (sheet : List ℕ) (n count version : ℕ) (text : List ℕ) → Prints sheet (Header.Sheet n count version) text
     → (lines : List ℕ) × Lines sheet n count lines × (text ≡ ascii "SHEET " ++ (decimal n ++ (ascii " " ++ (decimal count ++ ascii "\n"))) ++ lines)
-first-line sheet n count text p = p
+first-line sheet n count version text p = p
 
 -- the line of action j stands in a text, over the book that the actions before it leave, after the lines of those
 pub record LineIn (sheet : List ℕ) (n : ℕ) (text : List ℕ) (j : ℕ) : Type 0 where
@@ -110,6 +110,6 @@ action-line-at {sheet = sheet} {n = n} j h (more {k = i} {text = text} {next = n
         }
 
 -- and so in all that is printed, after the first line
-pub every-action-printed : (sheet : List ℕ) (n count : ℕ) (text : List ℕ) (j : ℕ) → j < count → Prints sheet (Header.Sheet n count) text
+pub every-action-printed : (sheet : List ℕ) (n count version : ℕ) (text : List ℕ) (j : ℕ) → j < count → Prints sheet (Header.Sheet n count version) text
     → (lines : List ℕ) × LineIn sheet n lines j × (text ≡ sheetLine n count ++ lines)
-every-action-printed sheet n count text j h p = (p .0, action-line-at j h (p .1), p .2)
+every-action-printed sheet n count version text j h p = (p .0, action-line-at j h (p .1), p .2)

@@ -13,5 +13,5 @@ lineEnds (x ∷ text) = cond (eqb x 10) 1 0 + lineEnds text
 
 -- the first line, and one for each action; or only the one
 abbrev pub linesOf : Header → ℕ
-linesOf (Header.Sheet n count) = suc count
+linesOf (Header.Sheet n count version) = suc count
 linesOf (Header.Refused why) = 1

@@ -16,7 +16,7 @@ use Rattle.printed.specs.Text.{fileLine, withdrawLine, routeLine, faultL
 abbrev pub LineOf : ℕ → Book → Action → List ℕ → Type 0
 LineOf n b (Action.File x) text = (r : Kept) × Files b x r × (text ≡ fileLine (x .number) (r .answer))
 LineOf n b (Action.Withdraw k) text = (r : Kept) × Withdraws b k r × (text ≡ withdrawLine k (r .answer))
-LineOf n b (Action.Route s d) text = (r : Found) × Routes b s d r × (text ≡ routeLine n s d r)
+LineOf n b (Action.Route s d choice) text = (r : Found) × Routes b s d choice r × (text ≡ routeLine n s d r)
 LineOf n b (Action.Refused why) text = text ≡ faultLine why
 
 -- the line of a part of a sheet, as the action reader reads it (`line-by-action`). "Check 2 comes before the entry's own.":

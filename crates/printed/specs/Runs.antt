@@ -23,7 +23,7 @@ pub data Lines (sheet : List ℕ) (n : ℕ) : ℕ → List ℕ → Type 0 where
 -- all that is printed of a sheet with this header: `first-line`, `every-action-printed` and `refused-text` say what stands where,
 -- `text-lines` how many lines there are
 abbrev pub Prints : List ℕ → Header → List ℕ → Type 0
-Prints sheet (Header.Sheet n count) text = (lines : List ℕ) × Lines sheet n count lines × (text ≡ sheetLine n count ++ lines)
+Prints sheet (Header.Sheet n count version) text = (lines : List ℕ) × Lines sheet n count lines × (text ≡ sheetLine n count ++ lines)
 Prints sheet (Header.Refused why) text = text ≡ refusedSheet why
 
 -- the room that a run asks for, whatever it prints: so many bytes for the first line, and so many for each action (`room-grows`)
@@ -34,7 +34,7 @@ abbrev pub actionRoom : ℕ
 actionRoom = 48
 
 abbrev pub room : Header → ℕ
-room (Header.Sheet n count) = firstLineRoom + actionRoom * count
+room (Header.Sheet n count version) = firstLineRoom + actionRoom * count
 room (Header.Refused why) = firstLineRoom
 
 -- "action count above 4,096" is refused, so no run asks for more than this: `room-within`

@@ -28,7 +28,11 @@ pub fn run(sheet: &[u8], out: &mut [u8]) -> Ran
 {
     match sheet_reader::read_header(sheet) {
         Header::Refused(why) => refused_sheet(why, out),
-        Header::Sheet { n, count } => whole_sheet(sheet, n, count, out),
+        Header::Sheet {
+            n,
+            count,
+            version: _,
+        } => whole_sheet(sheet, n, count, out),
     }
 }
 
@@ -45,7 +49,7 @@ fn refused_sheet(why: Refusal, out: &mut [u8]) -> Ran
 
 fn whole_sheet(sheet: &[u8], n: u8, count: u16, out: &mut [u8]) -> Ran
     requires { ⌜ (1 ≤ n) × (n ≤ 12) ⌝ }
-    ensures { λ r. ⌜ RunsBy (now (sheet .entry)) (Header.Sheet n count) (now (out .entry)) r (now (out .exit)) ⌝ }
+    ensures { λ r. ⌜ ((version : ℕ) → RunsBy (now (sheet .entry)) (Header.Sheet n count version) (now (out .entry)) r (now (out .exit))) ⌝ }
 {
     if out.len() < FIRST_LINE_ROOM + ACTION_ROOM * count as usize {
         return Ran::Refused(Refusal::Room);
@@ -89,8 +93,9 @@ fn lines(sheet: &[u8], n: u8, count: u16, out: &mut [u8], at: usize) -> usize
             Action::Route {
                 source,
                 destination,
+                choice,
             } => {
-                let found = router::routed(book, source, destination);
+                let found = router::routed(book, source, destination, choice);
                 next = route_line(n, source, destination, found, out, next);
             }
             Action::Refused(why) => {

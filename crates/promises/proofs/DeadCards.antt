@@ -3,7 +3,7 @@ use mathlib.Core.Path.{_≡_, refl, sym, ap, subst, _∙_}
 use mathlib.Core.Bool.{true, false}
 use mathlib.Core.List.{List, [], _∷_, List·Memᴰ·not-nil, List·Memᴰ·cases-cons}
 use mathlib.Core.Logic.{⊎-elim, _↔_}
-use Prim.Native.Nat.{ℕ, _<_}
+use Prim.Native.Nat.{ℕ, _≤_, _<_}
 use native.Mathlib.Decide.{ℕ-discrete}
 use native.Mathlib.Omega.{arith}
 use borrow.Author.Tests.{ltb-false}
@@ -20,6 +20,8 @@ use Rattle.paths.proofs.Named.{none-clear, stage-once}
 use Rattle.notices.specs.declared.Notice.{Notice}
 use Rattle.notices.specs.declared.Target.the-variants.{Switch}
 use Rattle.notices.specs.Notices.{names, unfit}
+use Rattle.notices.specs.Classes.{counts}
+use Rattle.notices.proofs.Classes.{broken-always}
 use Rattle.notices.proofs.Named.{column-0-names-outputs}
 use Rattle.notices.proofs.Fit.{switch-fit}
 use Rattle.standing.specs.Picked.{LowestNumber, some, lowest}
@@ -27,7 +29,7 @@ use Rattle.standing.specs.Rising.{insert, misfiled, littered, inPlaces}
 use Rattle.standing.proofs.Members.{none-bad}
 use Rattle.standing.proofs.Lowest.{lowest-number-as}
 use Rattle.book.specs.declared.Book.{Book}
-use Rattle.book.specs.Standing.{standing, stopsOf}
+use Rattle.book.specs.Standing.{standing, stopsOf, counted, countedStops}
 use Rattle.book.specs.Entries.{opened}
 use Rattle.book.proofs.Stoppers.{stopper-none}
 use Rattle.changes.specs.Runs.{Change, run, NotWithdrawn, StandsSince, NamesSince}
@@ -42,7 +44,7 @@ use Rattle.walks.proofs.Entries.{walk-lets-pass}
 use Rattle.walks.proofs.Promises.{walk-passes}
 use Rattle.promises.specs.Clearness.{StopsAWaySince}
 use Rattle.promises.specs.DeadCards.{StopsAWayOut, NoRouteLeaves, NoWalkLeaves}
-use Rattle.promises.proofs.Clearness.{good, rule}
+use Rattle.promises.proofs.Clearness.{good, rule, counts-exactly, counted-good, counted-rule}
 use Rattle.promises.proofs.Numbers.{same-size, walk-number-since, route-number-since}
 use Rattle.promises.proofs.Found.{routeOf, route-of}
 
@@ -52,11 +54,11 @@ unfolding walked
 at-source n s cs = refl
 
 -- the notices that stop a way out are those that stop a way onward at stage 0
-pub ways-out : (n : ℕ) (changes : List Change) (s d : ℕ) (x : Notice) → StopsAWayOut n changes s d x ↔ StopsAWaySince n changes s d 0 x
+pub ways-out : (n choice : ℕ) (changes : List Change) (s d : ℕ) (x : Notice) → StopsAWayOut n choice changes s d x ↔ StopsAWaySince n choice changes s d 0 x
 unfolding walked
-ways-out n changes s d x = (there, back)
+ways-out n choice changes s d x = (there, back)
   where
-    there : StopsAWayOut n changes s d x → StopsAWaySince n changes s d 0 x
+    there : StopsAWayOut n choice changes s d x → StopsAWaySince n choice changes s d 0 x
     there w =
         let v = w .1 in
         (w .0, (s, v .0, record { walk = []; links = refl; codes = tt; isClear = λ k h. absurd (omega arith); reaches = refl; code = v .1; toward = v .2 }, v .3))
@@ -65,7 +67,7 @@ ways-out n changes s d x = (there, back)
     empty [] e = refl
     empty (c ∷ cs) e = absurd (omega (arith, e))
 
-    back : StopsAWaySince n changes s d 0 x → StopsAWayOut n changes s d x
+    back : StopsAWaySince n choice changes s d 0 x → StopsAWayOut n choice changes s d x
     back w =
         let v = w .1 in
         let way = v .2 in
@@ -99,38 +101,47 @@ module _ (n : ℕ) (legal : outsideSizes n ≡ false) (changes : List Change) (x
       (sym (rule n legal changes 0 s c) ∙ clear)
       (x, stands-exactly n changes x .1 since, column-0-names-outputs n x s 0 s c is .1 (refl, refl))
 
-  none-leave : (d : ℕ) → NoneCross n (stopsOf ran) s d 0
-  none-leave d cs o = let one = o .links in held (getD cs 0 0) (rw (at-source n s cs) at (o .clear 0 (omega arith)))
+  -- by a counted notice, where the notice of the card counts
+  module _ (choice : ℕ) (few : choice ≤ 1) (counted-in : counts choice x ≡ true) where
+    held-counted : (c : ℕ) → countedStops choice ran 0 s c ≡ 0 → ⊥
+    held-counted c clear =
+        stopper-none n 0 s c (counted choice ran) (counted-good n legal changes choice) .0
+        (sym (counted-rule n legal changes choice 0 s c) ∙ clear)
+        (x, counts-exactly n legal changes choice x .1 (since, counted-in), column-0-names-outputs n x s 0 s c is .1 (refl, refl))
 
-  asked : (d : ℕ) → d < size n → Passed (routeChecks ran s d)
-  asked d dest =
-      route-lets-pass ran s d .1 (good-sound n ran legal (good n legal changes), size-of (λ (m : ℕ). s < size m) label, size-of (λ (m : ℕ). d < size m) dest)
+    none-leave : (d : ℕ) → NoneCross n (countedStops choice ran) s d 0
+    none-leave d cs o = let one = o .links in held-counted (getD cs 0 0) (rw (at-source n s cs) at (o .clear 0 (omega arith)))
 
-  -- no route leaves it
-  pub dead-card : NoRouteLeaves n changes s
-  dead-card d dest = go (routeOf n (stopsOf ran) s d) (route-of n (stopsOf ran) s d label dest)
-    where
-      named : StageNamed n (stopsOf ran) s d 0
-      named = record { none = none-leave d; least = λ k none. omega arith }
+    asked : (d : ℕ) → d < size n → Passed (routeChecks ran s d choice)
+    asked d dest =
+        route-lets-pass ran s d choice .1
+        (good-sound n ran legal (good n legal changes), size-of (λ (m : ℕ). s < size m) label, size-of (λ (m : ℕ). d < size m) dest, few)
 
-      go : (a : Found) → Routed n (stopsOf ran) s d a → (k : ℕ) × Routes ran s d (Found.None 0 k) × LowestNumber (StopsAWayOut n changes s d) k
-      go (Found.Tag t) w = absurd (none-clear n (stopsOf ran) s d 0 some-stage (none-leave d) (w .0) (w .1 .clearPath))
-      go (Found.None i k) w =
-          let first = subst (λ (z : ℕ). Routed n (stopsOf ran) s d (Found.None z k)) (stage-once n (stopsOf ran) s d i 0 (w .1) named) w in
-          let routes = route-passes ran s d (Found.None 0 k) (asked d dest) (size-of (λ (m : ℕ). Routed m (stopsOf ran) s d (Found.None 0 k)) first) in
-          (k, routes, lowest-number-as (λ y. ways-out n changes s d y .1) (λ y. ways-out n changes s d y .0) (route-number-since n legal changes s d 0 k (asked d dest) routes))
-      go (Found.Refused r) w = absurd w
+    -- no route leaves it
+    pub dead-card : NoRouteLeaves n choice changes s
+    dead-card d dest = go (routeOf n (countedStops choice ran) s d) (route-of n (countedStops choice ran) s d label dest)
+      where
+        named : StageNamed n (countedStops choice ran) s d 0
+        named = record { none = none-leave d; least = λ k none. omega arith }
 
-  -- the card's own notice stops a way out to every destination, so none of a higher number is named
-  pub dead-card-counts : (d : ℕ) → StopsAWayOut n changes s d x
-  dead-card-counts d = go (ℕ-discrete (bit 0 s) (bit 0 d))
-    where
-      out : (c : ℕ) → Code c → Agree 1 (lands n 0 c s) d → StopsAWayOut n changes s d x
-      out c code toward = (since, (c, code, toward, column-0-names-outputs n x s 0 s c is .1 (refl, refl)))
+        go : (a : Found) → Routed n (countedStops choice ran) s d a → (k : ℕ) × Routes ran s d choice (Found.None 0 k) × LowestNumber (StopsAWayOut n choice changes s d) k
+        go (Found.Tag t) w = absurd (none-clear n (countedStops choice ran) s d 0 some-stage (none-leave d) (w .0) (w .1 .clearPath))
+        go (Found.None i k) w =
+            let first = subst (λ (z : ℕ). Routed n (countedStops choice ran) s d (Found.None z k)) (stage-once n (countedStops choice ran) s d i 0 (w .1) named) w in
+            let routes = route-passes ran s d choice (Found.None 0 k) (asked d dest) (size-of (λ (m : ℕ). Routed m (countedStops choice ran) s d (Found.None 0 k)) first) in
+            (k, routes, lowest-number-as (λ y. ways-out n choice changes s d y .1) (λ y. ways-out n choice changes s d y .0) (route-number-since n legal changes s d choice 0 k (asked d dest) routes))
+        go (Found.Refused r) w = absurd w
 
-      go : Dec (bit 0 s ≡ bit 0 d) → StopsAWayOut n changes s d x
-      go (yes e) = out 0 (omega arith) (straight-toward n 0 some-stage s d (omega arith) e)
-      go (no e) = out 1 (omega arith) (nonstraight-toward n 0 some-stage 1 s d (omega arith) (omega arith) e)
+    -- the card's own notice stops a way out to every destination, so none of a higher number is named
+    pub dead-card-counts : (d : ℕ) → StopsAWayOut n choice changes s d x
+    dead-card-counts d = go (ℕ-discrete (bit 0 s) (bit 0 d))
+      where
+        out : (c : ℕ) → Code c → Agree 1 (lands n 0 c s) d → StopsAWayOut n choice changes s d x
+        out c code toward = ((since, counted-in), (c, code, toward, column-0-names-outputs n x s 0 s c is .1 (refl, refl)))
+
+        go : Dec (bit 0 s ≡ bit 0 d) → StopsAWayOut n choice changes s d x
+        go (yes e) = out 0 (omega arith) (straight-toward n 0 some-stage s d (omega arith) e)
+        go (no e) = out 1 (omega arith) (nonstraight-toward n 0 some-stage 1 s d (omega arith) (omega arith) e)
 
   -- and no walk leaves it
   pub dead-card-walked : NoWalkLeaves n changes s
@@ -146,7 +157,7 @@ module _ (n : ℕ) (legal : outsideSizes n ≡ false) (changes : List Change) (x
 
 -- There is such a card: of switch 5, by notice 6, in a fabric of three stages. Its own number is named, whatever the destination and whatever the tag.
 abbrev pub card : Notice
-card = record { number = 6; target = Switch 0 5 }
+card = record { number = 6; target = Switch 0 5; class = 0 }
 
 abbrev pub carded : List Change
 carded = Change.file card ∷ []
@@ -163,11 +174,11 @@ card-alone y since =
     (λ m. absurd (List·Memᴰ·not-nil m))
     (List·Memᴰ·cases-cons (stands-exactly 3 carded y .1 since))
 
-pub card-named : (d : ℕ) → d < size 3 → Routes (run carded (opened 3)) 5 d (Found.None 0 6)
-card-named d dest =
-    let w = dead-card 3 refl carded card some-dead-card 5 refl d dest in
+pub card-named : (choice : ℕ) → choice ≤ 1 → (d : ℕ) → d < size 3 → Routes (run carded (opened 3)) 5 d choice (Found.None 0 6)
+card-named choice few d dest =
+    let w = dead-card 3 refl carded card some-dead-card 5 refl choice few (broken-always card choice refl) d dest in
     let lowest = w .2 in
-    subst (λ (k : ℕ). Routes (run carded (opened 3)) 5 d (Found.None 0 k)) (sym (lowest .numbered) ∙ card-alone (lowest .notice) (lowest .among .0)) (w .1)
+    subst (λ (k : ℕ). Routes (run carded (opened 3)) 5 d choice (Found.None 0 k)) (sym (lowest .numbered) ∙ card-alone (lowest .notice) (lowest .among .0 .0)) (w .1)
 
 pub card-walked : (tag : ℕ) → tag < tags 3 → Walks (run carded (opened 3)) 5 tag (Ended.Stopped 0 6)
 card-walked tag h =

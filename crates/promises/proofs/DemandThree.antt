@@ -65,5 +65,6 @@ module _ (n : ℕ) (changes : List Change) (l : List Notice) (apart : Distinct l
   pub walks-alike : (s tag : ℕ) (q r : Ended) → Walks ran s tag q → Walks new s tag r → q ≡ r
   walks-alike s tag q r p w = walk-once ran s tag q r p (subst (λ (b : Book). Walks b s tag r) same w)
 
-  pub routes-alike : (s d : ℕ) (q r : Found) → Routes ran s d q → Routes new s d r → q ≡ r
-  routes-alike s d q r p w = route-once ran s d q r p (subst (λ (b : Book). Routes b s d r) same w)
+  -- "demand 3 holds for each choice"
+  pub routes-alike : (s d choice : ℕ) (q r : Found) → Routes ran s d choice q → Routes new s d choice r → q ≡ r
+  routes-alike s d choice q r p w = route-once ran s d choice q r p (subst (λ (b : Book). Routes b s d choice r) same w)

@@ -17,8 +17,9 @@ use Rattle.tags.specs.Entries.{tagToStepsChecks, normalFormChecks}
 use Rattle.tags.proofs.Promises.{to-steps-accepts, form-accepts}
 use Rattle.frontier.specs.Columns.{high}
 use Rattle.frontier.specs.Frontier.{through, lesser, advanced, mirrored}
+use Rattle.notices.specs.declared.Target.the-variants.{Links}
 use Rattle.book.specs.declared.Book.{Book}
-use Rattle.book.specs.Standing.{standing, stopper, stopsOf}
+use Rattle.book.specs.Standing.{standing, stopper, countedStops}
 use Rattle.standing.specs.Picked.{some, lowest, those}
 use Rattle.standing.specs.Rising.{inPlaces, insert, misfiled, littered}
 use Rattle.questions.specs.declared.Link.{Link}
@@ -30,7 +31,7 @@ use Rattle.questions.proofs.Answers.{link-stopped}
 use Rattle.routes.specs.declared.Found.{Found}
 use Rattle.routes.specs.Routed.{Routed, routeChecks, Routes}
 use Rattle.routes.proofs.Entries.{route-passes}
-use Rattle.promises.specs.Examples.{Example, Claim, examples, AllHold}
+use Rattle.promises.specs.Examples.{Example, Claim, examples, AllHold, links}
 use Rattle.crossing.proofs.Least.{lesserOf}
 use Rattle.promises.proofs.Found.{answerFrom, routeOf, route-of}
 
@@ -89,27 +90,27 @@ all-accepted (a ∷ rest) b e =
     (taken a b (passing-passes (changeChecks a b) (w .0)) .0, all-accepted rest (after a b) (w .1))
 
 -- the tests of a row: for route and link test, what holds of the book that the changes make
-routing : Book → ℕ → ℕ → Found → Bool
-routing b s d a = passing (routeChecks b s d) && sameFound (routeOf (b .n) (stopsOf b) s d) a
+routing : Book → ℕ → ℕ → ℕ → Found → Bool
+routing b s d choice a = passing (routeChecks b s d choice) && sameFound (routeOf (b .n) (countedStops choice b) s d) a
 
 stopping : Book → ℕ → ℕ → ℕ → ℕ → Bool
 stopping b i j c k = passing (linkChecks b i j c) && (eqb k (stopper (b .n) (standing b) i j c) && not (eqb k 0))
 
 test : Example → Bool
-test (Example.route n changes s d a) = accepting changes (opened n) && routing (run changes (opened n)) s d a
+test (Example.route n changes s d a) = accepting changes (opened n) && routing (run changes (opened n)) s d 0 a
 test (Example.normal n s tag form) = passing (normalFormChecks n s tag) && eqb form (normalTag n s (stepsOf n s tag))
 test (Example.steps n s tag cs) = passing (tagToStepsChecks n s tag (replicate n 0)) && sameList cs (stepsOf n s tag ++ drop n (replicate n 0))
 test (Example.stopped n changes i j c k) = accepting changes (opened n) && stopping (run changes (opened n)) i j c k
 
-routes-so : (b : Book) (s d : ℕ) (a : Found) → routing b s d a ≡ true → Routes b s d a
+routes-so : (b : Book) (s d choice : ℕ) (a : Found) → routing b s d choice a ≡ true → Routes b s d choice a
 unfolding routing
-routes-so b s d a e =
-    let w = both-hold (passing (routeChecks b s d)) (sameFound (routeOf (b .n) (stopsOf b) s d) a) .0 e in
-    let passed = passing-passes (routeChecks b s d) (w .0) in
-    let o = neither (s notBelow size (b .n)) (d notBelow size (b .n)) (passed-nth (routeChecks b s d) 1 passed) in
-    route-passes b s d a passed
-    (subst (Routed (b .n) (stopsOf b) s d) (same-found (routeOf (b .n) (stopsOf b) s d) a (w .1))
-    (route-of (b .n) (stopsOf b) s d (leb-false (size (b .n)) s (o .0)) (leb-false (size (b .n)) d (o .1))))
+routes-so b s d choice a e =
+    let w = both-hold (passing (routeChecks b s d choice)) (sameFound (routeOf (b .n) (countedStops choice b) s d) a) .0 e in
+    let passed = passing-passes (routeChecks b s d choice) (w .0) in
+    let o = neither (s notBelow size (b .n)) (d notBelow size (b .n)) (passed-nth (routeChecks b s d choice) 1 passed) in
+    route-passes b s d choice a passed
+    (subst (Routed (b .n) (countedStops choice b) s d) (same-found (routeOf (b .n) (countedStops choice b) s d) a (w .1))
+    (route-of (b .n) (countedStops choice b) s d (leb-false (size (b .n)) s (o .0)) (leb-false (size (b .n)) d (o .1))))
 
 stopped-so : (b : Book) (i j c k : ℕ) → stopping b i j c k ≡ true → Tests b i j c (Link.Stopped k)
 unfolding stopping
@@ -121,8 +122,8 @@ stopped-so b i j c k e =
 row : (e : Example) → test e ≡ true → Claim e
 unfolding test
 row (Example.route n changes s d a) e =
-    let w = both-hold (accepting changes (opened n)) (routing (run changes (opened n)) s d a) .0 e in
-    (all-accepted changes (opened n) (w .0), routes-so (run changes (opened n)) s d a (w .1))
+    let w = both-hold (accepting changes (opened n)) (routing (run changes (opened n)) s d 0 a) .0 e in
+    (all-accepted changes (opened n) (w .0), routes-so (run changes (opened n)) s d 0 a (w .1))
 row (Example.normal n s tag form) e =
     let w = both-hold (passing (normalFormChecks n s tag)) (eqb form (normalTag n s (stepsOf n s tag))) .0 e in
     form-accepts (passing-passes (normalFormChecks n s tag) (w .0)) (eqb-true form (normalTag n s (stepsOf n s tag)) (w .1))
@@ -160,3 +161,36 @@ row-of (x ∷ es) all (suc k) e claim = row-of es (all .1) k e claim
 pub row-holds : (k : ℕ) → Claim (getD examples k (Example.route 3 [] 1 0 (Found.Tag 0)))
 unfolding AllHold
 row-holds k = row-of examples examples-hold k (Example.route 3 [] 1 0 (Found.Tag 0)) (examples-hold .0)
+
+-- Document 02, §5: a filing of links that are only busy; and what a book after accepted changes answers with choice 0 and with choice 1
+abbrev busied : ℕ → ℕ → ℕ → ℕ → Change
+busied k stage switch set = Change.file (record { number = k; target = Links stage switch set; class = 1 })
+
+abbrev BothChoices : ℕ → List Change → ℕ → ℕ → Found → Found → Type 0
+BothChoices n changes s d all broken =
+    AllAccepted changes (opened n) × Routes (run changes (opened n)) s d 0 all × Routes (run changes (opened n)) s d 1 broken
+
+asked-twice : ℕ → List Change → ℕ → ℕ → Found → Found → Bool
+asked-twice n changes s d all broken =
+    accepting changes (opened n) && (routing (run changes (opened n)) s d 0 all && routing (run changes (opened n)) s d 1 broken)
+
+both-choices : (n : ℕ) (changes : List Change) (s d : ℕ) (all broken : Found) → asked-twice n changes s d all broken ≡ true → BothChoices n changes s d all broken
+unfolding asked-twice
+both-choices n changes s d all broken e =
+    let b : Book = run changes (opened n) in
+    let v = both-hold (accepting changes (opened n)) (routing b s d 0 all && routing b s d 1 broken) .0 e in
+    let w = both-hold (routing b s d 0 all) (routing b s d 1 broken) .0 (v .1) in
+    (all-accepted changes (opened n) (v .0), routes-so b s d 0 all (w .0), routes-so b s d 1 broken (w .1))
+
+-- Example 2 with its notice busy, and example 5 with its third: over all notices they answer as before, over broken ones only as if it were not there. And two
+-- notices that stop the same links, the lower one busy: over broken ones only the number after `BY` is the other's.
+pub busy-is-not-broken :
+    BothChoices 3 (busied 1 0 1 4 ∷ []) 1 0 (Found.Tag 8) (Found.Tag 0)
+    × BothChoices 3 (links 1 0 1 4 ∷ links 2 1 2 4 ∷ busied 3 2 4 4 ∷ links 4 2 4 2 ∷ []) 1 0 (Found.None 2 3) (Found.Tag 24)
+    × BothChoices 1 (busied 1 0 0 6 ∷ links 2 0 0 6 ∷ []) 0 1 (Found.None 0 1) (Found.None 0 2)
+unfolding asked-twice routing accepting passing sameFound run lowest some inPlaces insert those misfiled littered ones steered statesOf walked high through lesser advanced mirrored lesserOf answerFrom
+busy-is-not-broken = (
+  both-choices 3 (busied 1 0 1 4 ∷ []) 1 0 (Found.Tag 8) (Found.Tag 0) refl,
+  both-choices 3 (links 1 0 1 4 ∷ links 2 1 2 4 ∷ busied 3 2 4 4 ∷ links 4 2 4 2 ∷ []) 1 0 (Found.None 2 3) (Found.Tag 24) refl,
+  both-choices 1 (busied 1 0 0 6 ∷ links 2 0 0 6 ∷ []) 0 1 (Found.None 0 1) (Found.None 0 2) refl,
+)

@@ -14,7 +14,7 @@ use Rattle.notices.specs.Notices.{names}
 use Rattle.book.specs.declared.Book.{Book}
 use Rattle.table.specs.declared.Answer.{Answer}
 use Rattle.questions.specs.declared.Link.{Link}
-use Rattle.standing.specs.Picked.{lowest}
+use Rattle.standing.specs.Picked.{lowest, those}
 use Rattle.book.specs.Entries.{opened}
 use Rattle.changes.specs.Runs.{Change, run}
 use Rattle.routes.specs.declared.Found.{Found}
@@ -29,25 +29,26 @@ answering answer =
       answers = λ a b. answer;
       leaves = λ a b. b;
       link = λ b i j c. Link.Clear;
-      route = λ b s d. Found.None 0 1;
+      route = λ b s d choice. Found.None 0 1;
     }
 
 abbrev idle : Controller Book
 idle = answering Answer.Done
 
 pub some-says-eleven-always : SaysElevenAlways idle
-some-says-eleven-always b s d p = (0, 1, refl)
+some-says-eleven-always b s d choice p = (0, 1, refl)
 
 pub some-gives-tag-zero-always : GivesTagZeroAlways idle
-some-gives-tag-zero-always b s d t e = absurd (zero-one cc)
+some-gives-tag-zero-always b s d choice t e = absurd (zero-one cc)
 
 pub some-invents-a-stage : InventsAStage idle
-unfolding run lowest walked
+unfolding run lowest those walked
 some-invents-a-stage =
     record {
       book = empty;
       source = 1;
       destination = 0;
+      choice = 0;
       stage = 0;
       number = 1;
       answers = refl;
@@ -58,20 +59,20 @@ pub some-refuses-every-filing : RefusesEveryFiling (answering (Answer.Refused Re
 some-refuses-every-filing b x = (Refusal.Full, refl)
 
 pub some-looks-only-where-it-stands : LooksOnlyWhereItStands idle
-some-looks-only-where-it-stands = record { choose = λ n s d stage switch straight plus minus. 0; chosen = λ b s d t i e h. absurd (zero-one cc) }
+some-looks-only-where-it-stands = record { choose = λ n s d stage switch straight plus minus. 0; chosen = λ b s d choice t i e h. absurd (zero-one cc) }
 
 pub some-gives-up : GivesUp idle
 some-gives-up =
     let right = row-holds 0 .1 in
-    let first = right .routes (tag-passed empty 1 0 0 right) in
-    record { book = empty; source = 1; destination = 0; stage = 0; number = 1; answers = refl; steps = first .0; clear = first .1 .clearPath }
+    let first = right .routes (tag-passed empty 1 0 0 0 right) in
+    record { book = empty; source = 1; destination = 0; choice = 0; stage = 0; number = 1; answers = refl; steps = first .0; clear = first .1 .clearPath }
 
 -- two notices of one switch of a fabric of one stage, the first of its plus link and the second of both its nonstraight links
 abbrev plus : Notice
-plus = record { number = 1; target = Links 0 0 2 }
+plus = record { number = 1; target = Links 0 0 2; class = 0 }
 
 abbrev both : Notice
-both = record { number = 2; target = Links 0 0 6 }
+both = record { number = 2; target = Links 0 0 6; class = 0 }
 
 not-in-none : (l : List Change) (a : Change) (m : List Change) → [] ≡ l ++ a ∷ m → ⊥
 not-in-none [] a m e = zero-one cc

@@ -19,7 +19,7 @@ use Rattle.standing.proofs.Lowest.{lowest-number-as}
 use Rattle.book.specs.declared.Book.{Book}
 use Rattle.table.specs.declared.Answer.{Answer}
 use Rattle.questions.specs.declared.Link.{Link}
-use Rattle.book.specs.Standing.{standing, stopper, stopsOf}
+use Rattle.book.specs.Standing.{standing, stopper, countedStops}
 use Rattle.questions.proofs.Testing.{answered as byStopper, answers-tests}
 use Rattle.questions.proofs.Answers.{link-refused}
 use Rattle.book.specs.Entries.{opened, fileChecks, withdrawChecks}
@@ -66,20 +66,20 @@ ours =
       answers = λ a b. answered (changeChecks a b);
       leaves = after;
       link = λ b i j c. checked (linkChecks b i j c) (λ k. Link.Refused (byNumber k)) (told b i j c);
-      route = λ b s d. checked (routeChecks b s d) (λ k. Found.Refused (byNumber k)) (routeOf (b .n) (stopsOf b) s d);
+      route = λ b s d choice. checked (routeChecks b s d choice) (λ k. Found.Refused (byNumber k)) (routeOf (b .n) (countedStops choice b) s d);
     }
 
-routes-so : (b : Book) (s d : ℕ) → Routes b s d (ours .route b s d)
-routes-so b s d =
-    let cs : List Check = routeChecks b s d in
-    let answer : Found = routeOf (b .n) (stopsOf b) s d in
+routes-so : (b : Book) (s d choice : ℕ) → Routes b s d choice (ours .route b s d choice)
+routes-so b s d choice =
+    let cs : List Check = routeChecks b s d choice in
+    let answer : Found = routeOf (b .n) (countedStops choice b) s d in
     let no : ℕ → Found = λ k. Found.Refused (byNumber k) in
     record {
-      refuses = λ k g. ap routeSays (given-refuses no answer k cs g) ∙ ap refused (known-given cs (refl, (refl, tt)) g);
+      refuses = λ k g. ap routeSays (given-refuses no answer k cs g) ∙ ap refused (known-given cs (refl, (refl, (refl, tt))) g);
       routes = λ p.
           let o = neither (s notBelow size (b .n)) (d notBelow size (b .n)) (passed-nth cs 1 p) in
-          subst (Routed (b .n) (stopsOf b) s d) (sym (passed-accepts no answer cs p))
-          (route-of (b .n) (stopsOf b) s d (leb-false (size (b .n)) s (o .0)) (leb-false (size (b .n)) d (o .1)));
+          subst (Routed (b .n) (countedStops choice b) s d) (sym (passed-accepts no answer cs p))
+          (route-of (b .n) (countedStops choice b) s d (leb-false (size (b .n)) s (o .0)) (leb-false (size (b .n)) d (o .1)));
     }
 
 change-says : (a : Change) (b : Book) → answerSays (answered (changeChecks a b)) ≡ answer a b

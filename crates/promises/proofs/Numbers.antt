@@ -21,7 +21,7 @@ use Rattle.standing.specs.Picked.{LowestNumber, some, lowest}
 use Rattle.standing.specs.Rising.{Filed, inPlaces, insert, misfiled, littered}
 use Rattle.standing.proofs.Lowest.{lowest-number-as}
 use Rattle.book.specs.declared.Book.{Book}
-use Rattle.book.specs.Standing.{standing, stopper}
+use Rattle.book.specs.Standing.{standing, stopper, counted}
 use Rattle.book.specs.Entries.{opened}
 use Rattle.book.proofs.Stoppers.{stopper-exactly}
 use Rattle.questions.specs.declared.Link.{Link}
@@ -39,7 +39,7 @@ use Rattle.walks.proofs.Entries.{walk-lets-pass}
 use Rattle.walks.proofs.Promises.{walk-passes}
 use Rattle.promises.specs.Examples.{links}
 use Rattle.promises.specs.Clearness.{UnnamedSince, StopsAWaySince}
-use Rattle.promises.proofs.Clearness.{good, clear-since}
+use Rattle.promises.proofs.Clearness.{good, counts-exactly, counted-good, clear-since}
 
 -- "A walk passes that number on.": where a walk is stopped, the link test of the link that it meets answers the number that the walk names
 pub walk-passes-on : (b : Book) (s tag i k : ℕ) → Passed (walkChecks b s tag) → Walks b s tag (Ended.Stopped i k) → (r : Link)
@@ -83,20 +83,23 @@ module _ (n : ℕ) (legal : outsideSizes n ≡ false) (changes : List Change) wh
       (λ x w. (stands-exactly n changes x .1 (w .0), subst (λ (m : ℕ). names m x i (switchAt (ran .n) s (stepsOf (ran .n) s tag) i) (getD (stepsOf (ran .n) s tag) i 0) ≡ true) (sym same-size) (w .1)))
       (stopper-exactly (ran .n) i _ _ k (standing ran) filed .1 (first .number, omega arith)))
 
-  -- a way onward over the book is one over the run: what makes a walk clear is that no notice of the run names one of its links
-  way-since : (s d i j c : ℕ) → Way n (stopper n (standing ran)) s d i j c → WayBy (UnnamedSince n changes s) n s d i j c
-  way-since s d i j c =
-      way-as (λ cs clear. clear-since n legal changes s cs .0 (subst (λ (m : ℕ). Clear n (stopper m (standing ran)) s cs) (sym same-size) clear))
+  counted-filed : (choice : ℕ) → Filed (unfit (ran .n)) 0 (counted choice ran)
+  counted-filed choice = subst (λ (m : ℕ). Filed (unfit m) 0 (counted choice ran)) (sym same-size) (counted-good n legal changes choice)
 
-  since-way : (s d i j c : ℕ) → WayBy (UnnamedSince n changes s) n s d i j c → Way n (stopper n (standing ran)) s d i j c
-  since-way s d i j c =
-      way-as (λ cs none. subst (λ (m : ℕ). Clear n (stopper m (standing ran)) s cs) same-size (clear-since n legal changes s cs .1 none))
+  -- a way onward over the book is one over the run: what makes a walk clear is that no counted notice of the run names one of its links
+  way-since : (choice s d i j c : ℕ) → Way n (stopper n (counted choice ran)) s d i j c → WayBy (UnnamedSince n choice changes s) n s d i j c
+  way-since choice s d i j c =
+      way-as (λ cs clear. clear-since n legal changes choice s cs .0 (subst (λ (m : ℕ). Clear n (stopper m (counted choice ran)) s cs) (sym same-size) clear))
 
-  -- the number that a route names is the lowest among the notices of the run that stop a way onward
-  pub route-number-since : (s d i k : ℕ) → Passed (routeChecks ran s d) → Routes ran s d (Found.None i k) → LowestNumber (StopsAWaySince n changes s d i) k
-  route-number-since s d i k passed routes =
+  since-way : (choice s d i j c : ℕ) → WayBy (UnnamedSince n choice changes s) n s d i j c → Way n (stopper n (counted choice ran)) s d i j c
+  since-way choice s d i j c =
+      way-as (λ cs none. subst (λ (m : ℕ). Clear n (stopper m (counted choice ran)) s cs) same-size (clear-since n legal changes choice s cs .1 none))
+
+  -- the number that a route names is the lowest among the counted notices of the run that stop a way onward
+  pub route-number-since : (s d choice i k : ℕ) → Passed (routeChecks ran s d choice) → Routes ran s d choice (Found.None i k) → LowestNumber (StopsAWaySince n choice changes s d i) k
+  route-number-since s d choice i k passed routes =
       lowest-number-as
-      (λ x w. let v = w .1 in (stands-exactly n changes x .0 (w .0), (v .0, v .1, way-since s d i (v .0) (v .1) (v .2), v .3)))
-      (λ x w. let v = w .1 in (stands-exactly n changes x .1 (w .0), (v .0, v .1, since-way s d i (v .0) (v .1) (v .2), v .3)))
-      (subst (λ (m : ℕ). LowestNumber (StopsAWay m (standing ran) s d i) k) same-size
-      (number-by-notices (ran .n) (standing ran) filed s d i k .0 (routes .routes passed .2)))
+      (λ x w. let v = w .1 in (counts-exactly n legal changes choice x .0 (w .0), (v .0, v .1, way-since choice s d i (v .0) (v .1) (v .2), v .3)))
+      (λ x w. let v = w .1 in (counts-exactly n legal changes choice x .1 (w .0), (v .0, v .1, since-way choice s d i (v .0) (v .1) (v .2), v .3)))
+      (subst (λ (m : ℕ). LowestNumber (StopsAWay m (counted choice ran) s d i) k) same-size
+      (number-by-notices (ran .n) (counted choice ran) (counted-filed choice) s d i k .0 (routes .routes passed .2)))

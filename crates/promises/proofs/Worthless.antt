@@ -17,8 +17,8 @@ use Rattle.notices.specs.declared.Notice.{Notice}
 use Rattle.notices.specs.declared.Target.the-variants.{Links}
 use Rattle.book.specs.declared.Book.{Book}
 use Rattle.questions.specs.declared.Link.{Link}
-use Rattle.book.specs.Standing.{stopsOf}
-use Rattle.standing.specs.Picked.{some, lowest}
+use Rattle.book.specs.Standing.{countedStops}
+use Rattle.standing.specs.Picked.{some, lowest, those}
 use Rattle.standing.specs.Rising.{inPlaces, insert, misfiled, littered}
 use Rattle.book.specs.Entries.{opened}
 use Rattle.changes.specs.Runs.{Change, run}
@@ -29,12 +29,12 @@ use Rattle.promises.specs.Examples.{links}
 use Rattle.promises.specs.Controllers.{Controller, FilesAsPromised, RoutesAsPromised, SaysElevenAlways, GivesTagZeroAlways, InventsAStage, RefusesEveryFiling, LooksOnlyWhereItStands, GivesUp, Accepts, ownRun, ended, NeverWithdrawn, Holds, Named, IsLink, StopsWhatIsNamed, SameLinks, AcceptsAfter, FilesNothing, StoresTheFirstOnly, OpensForBoth, PlusAndMinusOneLink}
 use Rattle.promises.proofs.Examples.{row-holds}
 
--- a route that names a stage has passed 16 and 10
-none-routed : (b : Book) (s d i k : ℕ) → Routes b s d (Found.None i k) → Routed (b .n) (stopsOf b) s d (Found.None i k)
-none-routed b s d i k p = ⊎-elim (λ g. let e = p .refuses (g .0) (g .1) in absurd (zero-one cc)) (p .routes) (given-or-passed (routeChecks b s d))
+-- a route that names a stage has passed 16, 10 and 5
+none-routed : (b : Book) (s d choice i k : ℕ) → Routes b s d choice (Found.None i k) → Routed (b .n) (countedStops choice b) s d (Found.None i k)
+none-routed b s d choice i k p = ⊎-elim (λ g. let e = p .refuses (g .0) (g .1) in absurd (zero-one cc)) (p .routes) (given-or-passed (routeChecks b s d choice))
 
-pub tag-passed : (b : Book) (s d t : ℕ) → Routes b s d (Found.Tag t) → Passed (routeChecks b s d)
-tag-passed b s d t p = ⊎-elim (λ g. let e = p .refuses (g .0) (g .1) in absurd (zero-one cc)) (λ w. w) (given-or-passed (routeChecks b s d))
+pub tag-passed : (b : Book) (s d choice t : ℕ) → Routes b s d choice (Found.Tag t) → Passed (routeChecks b s d choice)
+tag-passed b s d choice t p = ⊎-elim (λ g. let e = p .refuses (g .0) (g .1) in absurd (zero-one cc)) (λ w. w) (given-or-passed (routeChecks b s d choice))
 
 -- the empty book of example 1
 abbrev pub empty : Book
@@ -46,43 +46,45 @@ module _ (c : Controller Book) (routes : RoutesAsPromised c) where
   pub not-eleven-always : SaysElevenAlways c → ⊥
   not-eleven-always says =
       let right = row-holds 0 .1 in
-      let e = says empty 1 0 (tag-passed empty 1 0 0 right) in
-      let f : Found.None (e .0) (e .1) ≡ Found.Tag 0 = sym (e .2) ∙ route-once empty 1 0 _ _ (routes empty 1 0) right in
+      let e = says empty 1 0 0 (tag-passed empty 1 0 0 0 right) in
+      let f : Found.None (e .0) (e .1) ≡ Found.Tag 0 = sym (e .2) ∙ route-once empty 1 0 0 _ _ (routes empty 1 0 0) right in
       zero-one cc
 
   -- "one that gives tag 0 always"
   pub not-tag-zero-always : GivesTagZeroAlways c → ⊥
   not-tag-zero-always gives =
       let b : Book = run [] (opened 1) in
-      let e : _≡_ {A = ℕ} 1 0 = gives b 0 1 1 (route-once b 0 1 _ _ (routes b 0 1) (row-holds 8 .1)) in
+      let e : _≡_ {A = ℕ} 1 0 = gives b 0 1 0 1 (route-once b 0 1 0 _ _ (routes b 0 1 0) (row-holds 8 .1)) in
       omega arith
+
+  -- what it answers where it names a stage is what is promised of paths
+  stuck : (b : Book) (s d choice i k : ℕ) → c .route b s d choice ≡ Found.None i k → Routed (b .n) (countedStops choice b) s d (Found.None i k)
+  stuck b s d choice i k e = none-routed b s d choice i k (subst (Routes b s d choice) e (routes b s d choice))
 
   -- "one that names an invented stage"
   pub not-an-invented-stage : InventsAStage c → ⊥
-  not-an-invented-stage w =
-      w .invented (none-routed (w .book) (w .source) (w .destination) (w .stage) (w .number) (subst (Routes (w .book) (w .source) (w .destination)) (w .answers) (routes _ _ _)) .1)
+  not-an-invented-stage w = w .invented (stuck (w .book) (w .source) (w .destination) (w .choice) (w .stage) (w .number) (w .answers) .1)
 
   -- "Taking the spare link only where the stopped one starts. A stopped straight link needs an earlier turn.": examples 1 and 6 turn
   -- at switch 1 of stage 0, whose own links are clear in both
   pub not-looking-only-where-it-stands : LooksOnlyWhereItStands c → ⊥
-  unfolding run some inPlaces insert misfiled littered lowest steered walked
+  unfolding run some those inPlaces insert misfiled littered lowest steered walked
   not-looking-only-where-it-stands w =
       let b : Book = run (links 1 1 0 1 ∷ []) (opened 3) in
-      let minus : _≡_ {A = ℕ} 2 (w .choose 3 1 0 0 1 0 0 0) = w .chosen empty 1 0 0 0 (route-once empty 1 0 _ _ (routes empty 1 0) (row-holds 0 .1)) (omega arith) in
-      let plus : _≡_ {A = ℕ} 1 (w .choose 3 1 0 0 1 0 0 0) = w .chosen b 1 0 8 0 (route-once b 1 0 _ _ (routes b 1 0) (row-holds 5 .1)) (omega arith) in
+      let minus : _≡_ {A = ℕ} 2 (w .choose 3 1 0 0 1 0 0 0) = w .chosen empty 1 0 0 0 0 (route-once empty 1 0 0 _ _ (routes empty 1 0 0) (row-holds 0 .1)) (omega arith) in
+      let plus : _≡_ {A = ℕ} 1 (w .choose 3 1 0 0 1 0 0 0) = w .chosen b 1 0 0 8 0 (route-once b 1 0 0 _ _ (routes b 1 0 0) (row-holds 5 .1)) (omega arith) in
       let z : _≡_ {A = ℕ} 2 1 = minus ∙ sym plus in
       omega arith
 
   -- "Answering 'none' after the first failed turn back."
   pub not-giving-up : GivesUp c → ⊥
-  not-giving-up w =
-      none-routed (w .book) (w .source) (w .destination) (w .stage) (w .number) (subst (Routes (w .book) (w .source) (w .destination)) (w .answers) (routes _ _ _)) .0 (w .steps) (w .clear)
+  not-giving-up w = stuck (w .book) (w .source) (w .destination) (w .choice) (w .stage) (w .number) (w .answers) .0 (w .steps) (w .clear)
 
 -- by demand 1 with the table: "one that refuses every filing"
 pub not-every-filing-refused : (c : Controller Book) → FilesAsPromised c → RefusesEveryFiling c → ⊥
 unfolding run some inPlaces insert misfiled littered
 not-every-filing-refused c files refuses =
-    let x : Notice = record { number = 2; target = Links 1 2 4 } in
+    let x : Notice = record { number = 2; target = Links 1 2 4; class = 0 } in
     let w = refuses empty x in
     let e : refused (numberOf (w .0)) ≡ accepted [] = ap answerSays (sym (w .1)) ∙ files empty x .says in
     zero-one cc

@@ -1,4 +1,4 @@
--- Demand 2's 'stopped' is demand 3's: the links that the notices of a run stop, said of a walk and of the ways onward.
+-- Demand 2's 'stopped by a counted notice' is demand 3's: the links that the counted notices of a run stop, said of a walk and of the ways onward.
 use mathlib.Core.Path.{_≡_}
 use mathlib.Core.Bool.{true}
 use mathlib.Core.List.{List}
@@ -8,16 +8,21 @@ use Rattle.fabric.specs.Walks.{switchAt}
 use Rattle.paths.specs.Ways.{WayBy}
 use Rattle.notices.specs.declared.Notice.{Notice}
 use Rattle.notices.specs.Notices.{names}
+use Rattle.notices.specs.Classes.{counts}
 use Rattle.book.specs.Entries.{opened}
 use Rattle.changes.specs.Runs.{Change, StandsSince}
 
--- no link of a walk from s is named by a notice that was accepted in a run and not withdrawn since
-abbrev pub UnnamedSince : ℕ → List Change → ℕ → List ℕ → Type 0
-UnnamedSince n changes s cs =
-    (k : ℕ) → k < length cs → (x : Notice) → StandsSince (opened n) changes x → names n x k (switchAt n s cs k) (getD cs k 0) ≡ true → ⊥
+-- a notice that was accepted in a run and not withdrawn since, and that a route of this choice counts
+abbrev pub CountsSince : ℕ → ℕ → List Change → Notice → Type 0
+CountsSince n choice changes x = StandsSince (opened n) changes x × (counts choice x ≡ true)
 
--- Document 02, §2, "Demand 3 covers the new number": a notice that was accepted in a run and not withdrawn since stops a way onward at stage i, from a switch
+-- no link of a walk from s is named by such a notice
+abbrev pub UnnamedSince : ℕ → ℕ → List Change → ℕ → List ℕ → Type 0
+UnnamedSince n choice changes s cs =
+    (k : ℕ) → k < length cs → (x : Notice) → CountsSince n choice changes x → names n x k (switchAt n s cs k) (getD cs k 0) ≡ true → ⊥
+
+-- Document 02, §2, "Demand 3 covers the new number", and §5, "demand 3 holds for each choice": such a notice stops a way onward at stage i, from a switch
 -- that a walk reaches of which no such notice names a link. `route-number-since` (proofs/Numbers.antt) says that a route names the lowest number of one.
-abbrev pub StopsAWaySince : ℕ → List Change → ℕ → ℕ → ℕ → Notice → Type 0
-StopsAWaySince n changes s d i x =
-    StandsSince (opened n) changes x × ((j : ℕ) × (c : ℕ) × WayBy (UnnamedSince n changes s) n s d i j c × (names n x i j c ≡ true))
+abbrev pub StopsAWaySince : ℕ → ℕ → List Change → ℕ → ℕ → ℕ → Notice → Type 0
+StopsAWaySince n choice changes s d i x =
+    CountsSince n choice changes x × ((j : ℕ) × (c : ℕ) × WayBy (UnnamedSince n choice changes s) n s d i j c × (names n x i j c ≡ true))

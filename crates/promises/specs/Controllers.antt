@@ -19,7 +19,7 @@ use Rattle.standing.specs.Picked.{LowestNumber}
 use Rattle.book.specs.declared.Book.{Book}
 use Rattle.table.specs.declared.Answer.{Answer}
 use Rattle.questions.specs.declared.Link.{Link}
-use Rattle.book.specs.Standing.{stopsOf}
+use Rattle.book.specs.Standing.{countedStops}
 use Rattle.book.specs.Entries.{Files}
 use Rattle.changes.specs.Runs.{Change}
 use Rattle.routes.specs.declared.Found.{Found}
@@ -32,58 +32,59 @@ pub record Controller (B : Type 0) : Type 0 where
   pub answers : Change → B → Answer
   pub leaves : Change → B → B
   pub link : B → ℕ → ℕ → ℕ → Link
-  pub route : B → ℕ → ℕ → Found
+  pub route : B → ℕ → ℕ → ℕ → Found
 
 -- Demand 1 with the table, for filings, and demand 2: its answers are those that the entries promise.
 abbrev pub FilesAsPromised : Controller Book → Type 0
 FilesAsPromised c = (b : Book) (x : Notice) → Files b x (record { book = c .leaves (Change.file x) b; answer = c .answers (Change.file x) b })
 
 abbrev pub RoutesAsPromised : Controller Book → Type 0
-RoutesAsPromised c = (b : Book) (s d : ℕ) → Routes b s d (c .route b s d)
+RoutesAsPromised c = (b : Book) (s d choice : ℕ) → Routes b s d choice (c .route b s d choice)
 
--- "one that says 11 to every route": every one that 16 and 10 let through
+-- "one that says 11 to every route": every one that 16, 10 and 5 let through
 abbrev pub SaysElevenAlways : Controller Book → Type 0
-SaysElevenAlways c = (b : Book) (s d : ℕ) → Passed (routeChecks b s d) → (i : ℕ) × (k : ℕ) × (c .route b s d ≡ Found.None i k)
+SaysElevenAlways c = (b : Book) (s d choice : ℕ) → Passed (routeChecks b s d choice) → (i : ℕ) × (k : ℕ) × (c .route b s d choice ≡ Found.None i k)
 
 -- "one that gives tag 0 always"
 abbrev pub GivesTagZeroAlways : Controller Book → Type 0
-GivesTagZeroAlways c = (b : Book) (s d t : ℕ) → c .route b s d ≡ Found.Tag t → t ≡ 0
+GivesTagZeroAlways c = (b : Book) (s d choice t : ℕ) → c .route b s d choice ≡ Found.Tag t → t ≡ 0
 
 -- "one that names an invented stage": somewhere, one that is not the stage named
 pub record InventsAStage (c : Controller Book) : Type 0 where
   pub book : Book
   pub source : ℕ
   pub destination : ℕ
+  pub choice : ℕ
   pub stage : ℕ
   pub number : ℕ
-  pub answers : c .route book source destination ≡ Found.None stage number
-  pub invented : StageNamed (book .n) (stopsOf book) source destination stage → ⊥
+  pub answers : c .route book source destination choice ≡ Found.None stage number
+  pub invented : StageNamed (book .n) (countedStops choice book) source destination stage → ⊥
 
 -- "one that refuses every filing"
 abbrev pub RefusesEveryFiling : Controller Book → Type 0
 RefusesEveryFiling c = (b : Book) (x : Notice) → (why : Refusal) × (c .answers (Change.file x) b ≡ Answer.Refused why)
 
 -- "Taking the spare link only where the stopped one starts.": the link that is taken at a switch follows from the size, source,
--- destination, stage and switch, and from what stops the switch's own three links
+-- destination, stage and switch, and from what stops the switch's own three links among the notices that count
 abbrev switchOf : Book → ℕ → ℕ → ℕ → ℕ
 switchOf b s t i = switchAt (b .n) s (stepsOf (b .n) s t) i
 
 pub record LooksOnlyWhereItStands (c : Controller Book) : Type 0 where
   pub choose : (n s d stage switch straight plus minus : ℕ) → ℕ
-  pub chosen : (b : Book) (s d t i : ℕ) → c .route b s d ≡ Found.Tag t → i < b .n
-      → getD (stepsOf (b .n) s t) i 0
-      ≡ choose (b .n) s d i (switchOf b s t i) (stopsOf b i (switchOf b s t i) 0) (stopsOf b i (switchOf b s t i) 1) (stopsOf b i (switchOf b s t i) 2)
+  pub chosen : (b : Book) (s d choice t i : ℕ) → c .route b s d choice ≡ Found.Tag t → i < b .n
+      → let stops : ℕ → ℕ = countedStops choice b i (switchOf b s t i) in getD (stepsOf (b .n) s t) i 0 ≡ choose (b .n) s d i (switchOf b s t i) (stops 0) (stops 1) (stops 2)
 
 -- "Answering "none" after the first failed turn back.": somewhere, although a path is clear
 pub record GivesUp (c : Controller Book) : Type 0 where
   pub book : Book
   pub source : ℕ
   pub destination : ℕ
+  pub choice : ℕ
   pub stage : ℕ
   pub number : ℕ
-  pub answers : c .route book source destination ≡ Found.None stage number
+  pub answers : c .route book source destination choice ≡ Found.None stage number
   pub steps : List ℕ
-  pub clear : ClearPath (book .n) (stopsOf book) source destination steps
+  pub clear : ClearPath (book .n) (countedStops choice book) source destination steps
 
 -- Demand 3's first half, of any controller along its own runs: what it accepted, by its own answers, and what its own link test says.
 module _ {B : Type 0} (c : Controller B) where

@@ -12,21 +12,23 @@ use Rattle.notices.specs.declared.Notice.{Notice}
 use Rattle.notices.specs.Notices.{names}
 use Rattle.standing.specs.Picked.{LowestNumber}
 use Rattle.book.specs.Entries.{opened}
-use Rattle.changes.specs.Runs.{Change, run, StandsSince, NamesSince}
+use Rattle.changes.specs.Runs.{Change, run, NamesSince}
+use Rattle.promises.specs.Clearness.{CountsSince}
 use Rattle.routes.specs.declared.Found.{Found}
 use Rattle.routes.specs.Routed.{Routes}
 use Rattle.walks.specs.declared.Ended.{Ended}
 use Rattle.walks.specs.Entries.{Walks}
 
--- a notice that was accepted and not withdrawn since stops a link that leaves s at stage 0 toward d. These are the notices that stop a way onward
+-- a counted notice that was accepted and not withdrawn since stops a link that leaves s at stage 0 toward d. These are the notices that stop a way onward
 -- there: `ways-out`.
-abbrev pub StopsAWayOut : ℕ → List Change → ℕ → ℕ → Notice → Type 0
-StopsAWayOut n changes s d x = StandsSince (opened n) changes x × ((c : ℕ) × Code c × Agree 1 (lands n 0 c s) d × (names n x 0 s c ≡ true))
+abbrev pub StopsAWayOut : ℕ → ℕ → List Change → ℕ → ℕ → Notice → Type 0
+StopsAWayOut n choice changes s d x = CountsSince n choice changes x × ((c : ℕ) × Code c × Agree 1 (lands n 0 c s) d × (names n x 0 s c ≡ true))
 
--- no route leaves s: to every destination 11 with stage 0, and with it the lowest number of a notice that stops a way out. `dead-card` says it of a switch that a
--- notice of column 0 names, `card-named` of one of them with its number.
-abbrev pub NoRouteLeaves : ℕ → List Change → ℕ → Type 0
-NoRouteLeaves n changes s = (d : ℕ) → d < size n → (k : ℕ) × Routes (run changes (opened n)) s d (Found.None 0 k) × LowestNumber (StopsAWayOut n changes s d) k
+-- no route of this choice leaves s: to every destination 11 with stage 0, and with it the lowest number of a counted notice that stops a way out. `dead-card` says
+-- it of a switch that a counted notice of column 0 names, a broken one with either choice, `card-named` of one of them with its number.
+abbrev pub NoRouteLeaves : ℕ → ℕ → List Change → ℕ → Type 0
+NoRouteLeaves n choice changes s =
+    (d : ℕ) → d < size n → (k : ℕ) × Routes (run changes (opened n)) s d choice (Found.None 0 k) × LowestNumber (StopsAWayOut n choice changes s d) k
 
 -- and no walk: every tag's is stopped at stage 0, by the lowest number that names its first link: `dead-card-walked`, `card-walked`
 abbrev pub NoWalkLeaves : ℕ → List Change → ℕ → Type 0

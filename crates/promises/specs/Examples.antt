@@ -1,5 +1,5 @@
 -- Document 01, 'Thirteen examples to prove': the table, and what each row of it claims of the entries. Where a row says none or stopped, document 02, §2,
--- has a notice's number named too.
+-- has a notice's number named too; all notices are broken and all count (§5).
 use mathlib.Core.List.{List, [], _∷_}
 use Prim.Native.Nat.{ℕ}
 use lib.ListN.{replicate}
@@ -15,7 +15,7 @@ use Rattle.routes.specs.declared.Found.{Found}
 use Rattle.routes.specs.Routed.{Routes}
 
 pub data Example : Type 0 where
-  -- a size, the changes made to an empty book, a source, a destination, and the route's answer
+  -- a size, the changes made to an empty book, a source, a destination, and the answer of a route over all notices
   route : ℕ → List Change → ℕ → ℕ → Found → Example
   -- a size, a source, a tag, and its normal form
   normal : ℕ → ℕ → ℕ → ℕ → Example
@@ -26,14 +26,14 @@ pub data Example : Type 0 where
 
 -- Every change was accepted, and the entry answers so.
 abbrev pub Claim : Example → Type 0
-Claim (Example.route n changes s d answer) = AllAccepted changes (opened n) × Routes (run changes (opened n)) s d answer
+Claim (Example.route n changes s d answer) = AllAccepted changes (opened n) × Routes (run changes (opened n)) s d 0 answer
 Claim (Example.normal n s tag form) = NormalForm n s tag (Tag.Normal form)
 Claim (Example.steps n s tag cs) = TagToSteps n s tag (replicate n 0) Answer.Done cs
 Claim (Example.stopped n changes i j c k) = AllAccepted changes (opened n) × Tests (run changes (opened n)) i j c (Link.Stopped k)
 
 -- a filing of links of one switch, by number: stage, switch, set (straight 1, plus 2, minus 4)
 abbrev pub links : ℕ → ℕ → ℕ → ℕ → Change
-links k stage switch set = Change.file (record { number = k; target = Links stage switch set })
+links k stage switch set = Change.file (record { number = k; target = Links stage switch set; class = 0 })
 
 abbrev pub examples : List Example
 examples =

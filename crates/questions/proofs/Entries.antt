@@ -74,11 +74,11 @@ module _ (b : Book) (memory : List ℕ) where
   pub listing-order : numbers (listingChecks b memory) ≡ 16 ∷ 13 ∷ []
   listing-order = refl
 
-  -- 13: "lent memory too short", shorter than ten bytes for each notice that stands
-  pub listing-lets-pass : Passed (listingChecks b memory) ↔ ((unsound b ≡ false) × (10 * length (standing b) ≤ length memory))
+  -- 13: "lent memory too short", shorter than eleven bytes for each notice that stands
+  pub listing-lets-pass : Passed (listingChecks b memory) ↔ ((unsound b ≡ false) × (11 * length (standing b) ≤ length memory))
   listing-lets-pass = (
-    (λ p. (passed-nth (listingChecks b memory) 0 p, ltb-false (length memory) (10 * length (standing b)) (passed-nth (listingChecks b memory) 1 p))),
-    (λ w. passes (w .0) (passes (le-ltb (length memory) (10 * length (standing b)) (w .1)) none)),
+    (λ p. (passed-nth (listingChecks b memory) 0 p, ltb-false (length memory) (11 * length (standing b)) (passed-nth (listingChecks b memory) 1 p))),
+    (λ w. passes (w .0) (passes (le-ltb (length memory) (11 * length (standing b)) (w .1)) none)),
   )
 
 -- every refusal comes with a number of the table
@@ -91,25 +91,25 @@ pub listing-numbered : (a : Listing) → Numbered (listingSays a)
 listing-numbered (Listing.Listed count) = tt
 listing-numbered (Listing.Refused why) = above-zero why
 
--- the listing: "ten bytes each .. at the front; the rest stays. It answers how many there are."
+-- the listing: "eleven bytes each", "at the front; the rest stays. It answers how many there are."
 module _ (b : Book) (before after : List ℕ) (r : Listing) (lists : Lists b before after r) where
   pub listed-exactly : Passed (listingChecks b before)
       → (listingSays r ≡ Reply.accepted (length (standing b) ∷ []))
-      × (take (10 * length (standing b)) after ≡ rows (standing b))
-      × (drop (10 * length (standing b)) after ≡ drop (10 * length (standing b)) before)
+      × (take (11 * length (standing b)) after ≡ rows 11 (standing b))
+      × (drop (11 * length (standing b)) after ≡ drop (11 * length (standing b)) before)
   listed-exactly passed =
-      let l = length-rows (standing b) in
-      let left : after ≡ rows (standing b) ++ drop (10 * length (standing b)) before =
-      lists .leaves ∙ passed-accepts (λ k. before) (rows (standing b) ++ drop (10 * length (standing b)) before) (listingChecks b before) passed in (
+      let l = length-rows 11 (omega arith) (standing b) in
+      let left : after ≡ rows 11 (standing b) ++ drop (11 * length (standing b)) before =
+      lists .leaves ∙ passed-accepts (λ k. before) (rows 11 (standing b) ++ drop (11 * length (standing b)) before) (listingChecks b before) passed in (
         lists .says ∙ passed-accepts refused (Reply.accepted (length (standing b) ∷ [])) (listingChecks b before) passed,
-        ap (take (10 * length (standing b))) left ∙ take-at (rows (standing b)) (drop (10 * length (standing b)) before) (10 * length (standing b)) l,
-        ap (drop (10 * length (standing b))) left ∙ drop-at (rows (standing b)) (drop (10 * length (standing b)) before) (10 * length (standing b)) l,
+        ap (take (11 * length (standing b))) left ∙ take-at (rows 11 (standing b)) (drop (11 * length (standing b)) before) (11 * length (standing b)) l,
+        ap (drop (11 * length (standing b))) left ∙ drop-at (rows 11 (standing b)) (drop (11 * length (standing b)) before) (11 * length (standing b)) l,
       )
 
   pub refused-listing-writes-nothing : (why : Refusal) → r ≡ Listing.Refused why → after ≡ before
   refused-listing-writes-nothing why e =
       let g = refused-given (listingChecks b before) (length (standing b) ∷ []) (numberOf why) (sym (ap listingSays e) ∙ lists .says) in
-      lists .leaves ∙ given-refuses (λ k. before) (rows (standing b) ++ drop (10 * length (standing b)) before) (numberOf why) (listingChecks b before) g
+      lists .leaves ∙ given-refuses (λ k. before) (rows 11 (standing b) ++ drop (11 * length (standing b)) before) (numberOf why) (listingChecks b before) g
 
 -- of the book that a refused opening hands back: "which every entry over a book answers with 16"
 pub refused-opening-asked : (n i j c : ℕ) (memory : List ℕ) → outsideSizes n ≡ true → Given 16 (linkChecks (opened n) i j c) × Given 16 (listingChecks (opened n) memory)

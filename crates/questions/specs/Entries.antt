@@ -1,4 +1,4 @@
--- Document 01, 'Numbers handed back', "Entries and order of checks": link stopped or not, with document 02, §2, and listing.
+-- Document 01, 'Numbers handed back', "Entries and order of checks": link stopped or not, with document 02, §2, and listing, with document 02, §5.
 use mathlib.Core.Path.{_≡_}
 use mathlib.Core.Bool.{_||_}
 use mathlib.Core.List.{List, [], _∷_, _++_}
@@ -30,7 +30,7 @@ linkSays (Link.Refused why) = refused (numberOf why)
 abbrev pub linkChecks : Book → ℕ → ℕ → ℕ → List Check
 linkChecks b i j c = bookChecks b ++ (4 when (i notBelow b .n || j notBelow size (b .n))) ∷ (12 when 2 below c) ∷ []
 
--- "The link test should answer with the lowest number among the notices that stop the link, or clear.": `link-says-exactly`; `tests-answers` and
+-- "The link test should answer with the lowest number among the notices that stop the link, or clear.", and it counts "all notices": `link-says-exactly`; `tests-answers` and
 -- `answers-tests` (proofs/Testing.antt) say it by the stopper
 pub record Tests (b : Book) (i j c : ℕ) (r : Link) : Type 0 where
   pub refuses : (k : ℕ) → Given k (linkChecks b i j c) → linkSays r ≡ refused k
@@ -42,12 +42,12 @@ abbrev pub listingSays : Listing → Reply
 listingSays (Listing.Listed count) = Reply.accepted (count ∷ [])
 listingSays (Listing.Refused why) = refused (numberOf why)
 
--- "listing: 16, 13.": too short is shorter than ten bytes each; `listing-order`, `listing-lets-pass`
+-- "listing: 16, 13.": too short is shorter than "eleven bytes each"; `listing-order`, `listing-lets-pass`
 abbrev pub listingChecks : Book → List ℕ → List Check
-listingChecks b memory = bookChecks b ++ (13 when length memory below actionLength * length (standing b)) ∷ []
+listingChecks b memory = bookChecks b ++ (13 when length memory below actionLength 2 * length (standing b)) ∷ []
 
--- "Standing notices by rising number, ten bytes each as filing actions, at the front; the rest stays. It answers how many
--- there are.": `listed-exactly`, `refused-listing-writes-nothing`. `listed-rising` (book/proofs/Filings.antt) says that they stand by rising number.
+-- "Standing notices by rising number, .. each as filing actions, at the front; the rest stays. It answers how many there are.", and "The listing writes
+-- eleven bytes each, class last": `listed-exactly`, `refused-listing-writes-nothing`. `listed-rising` (book/proofs/Filings.antt) says that they stand by rising number.
 pub record Lists (b : Book) (before after : List ℕ) (r : Listing) : Type 0 where
   pub says : listingSays r ≡ checked (listingChecks b before) refused (Reply.accepted (length (standing b) ∷ []))
-  pub leaves : after ≡ checked (listingChecks b before) (λ k. before) (rows (standing b) ++ drop (actionLength * length (standing b)) before)
+  pub leaves : after ≡ checked (listingChecks b before) (λ k. before) (rows (actionLength 2) (standing b) ++ drop (actionLength 2 * length (standing b)) before)

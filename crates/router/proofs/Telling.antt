@@ -20,7 +20,8 @@ use Rattle.frontier.proofs.Pivots.{high-lt, high-straight, low-plus, low-minus,
 use Rattle.frontier.proofs.Sets.{none-has}
 use Rattle.notices.specs.declared.Notice.{Notice}
 use Rattle.notices.specs.Notices.{names, unfit}
-use Rattle.standing.specs.Picked.{some}
+use Rattle.notices.specs.Classes.{counts}
+use Rattle.standing.specs.Picked.{some, those}
 use Rattle.standing.specs.Rising.{Filed}
 use Rattle.standing.proofs.Lowest.{lowest-tells}
 use Rattle.book.specs.Standing.{stopper}
@@ -112,3 +113,17 @@ module _ (n : ℕ) (straights forks : List ℕ) (all : List Notice) where
       same : {a b c x y z : Bool} → a ≡ x → b ≡ y → c ≡ z
           → _≡_ {A = StopsAt} (record { straight = a; plus = b; minus = c }) (record { straight = x; plus = y; minus = z })
       same ea eb ec = rw (ea, eb, ec)
+
+-- those of a list that are counted, with its first notice and without it
+module _ (choice : ℕ) (x : Notice) (rest : List Notice) where
+  pub counted-first : counts choice x ≡ true → those (counts choice) (x ∷ rest) ≡ x ∷ those (counts choice) rest
+  unfolding those
+  counted-first e = rw e
+
+  pub uncounted-first : counts choice x ≡ false → those (counts choice) (x ∷ rest) ≡ those (counts choice) rest
+  unfolding those
+  uncounted-first e = rw e
+
+pub none-counted : (choice : ℕ) → those (counts choice) [] ≡ []
+unfolding those
+none-counted choice = refl

@@ -7,6 +7,7 @@ use Rattle.frontier.specs.declared.Stops.{Stops}
 use Rattle.frontier.specs.Stops.{has, setAt}
 use Rattle.notices.specs.declared.Notice.{Notice}
 use Rattle.notices.specs.Notices.{names, unfit}
+use Rattle.notices.specs.Classes.{counts}
 use Rattle.standing.specs.Picked.{some}
 use Rattle.standing.specs.Rising.{Filed}
 use Rattle.named_links.specs.Named.{outOf}
@@ -27,3 +28,7 @@ abbrev pub stopsOneOf : ℕ → List ℕ → List ℕ → ℕ → ℕ → Notice
 stopsOneOf n straights forks i ways x =
     let onWay : ℕ → Bool = λ c. names n x i (outOf straights forks i c) c && has ways c in
     onWay 0 || (onWay 1 || onWay 2)
+
+-- and is counted
+abbrev pub countedStopsOneOf : ℕ → ℕ → List ℕ → List ℕ → ℕ → ℕ → Notice → Bool
+countedStopsOneOf choice n straights forks i ways x = counts choice x && stopsOneOf n straights forks i ways x

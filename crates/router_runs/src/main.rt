@@ -19,6 +19,8 @@ fn main() {
     not_reached();
     last_stage();
     dead_card();
+    choices();
+    bad_choices();
 }
 
 // A notice for links of one switch.
@@ -26,6 +28,7 @@ fn links(number: u16, stage: u8, switch: u16, set: u8) -> Notice {
     Notice {
         number,
         target: Target::Links { stage, switch, set },
+        class: 0,
     }
 }
 
@@ -34,6 +37,7 @@ fn switch(number: u16, column: u8, switch: u16) -> Notice {
     Notice {
         number,
         target: Target::Switch { column, switch },
+        class: 0,
     }
 }
 
@@ -160,12 +164,54 @@ fn label_of_a_dead_card() {
     route(0, with(straight, links(8, 1, 6, 6)), 5, 4);
 }
 
+// The same links, only reserved.
+fn busy(notice: Notice) -> Notice {
+    let target = notice.target;
+    Notice {
+        number: notice.number,
+        target,
+        class: 1,
+    }
+}
+
+// Document 02, §5: over all notices and over broken ones only. A walk counts all.
+fn choices() {
+    let reserved = with(empty(3), busy(links(1, 0, 1, 4)));
+    both_choices(reserved, 1, 0);
+    walk(reserved, 1, 0);
+    let plus = with(reserved, links(2, 0, 1, 2));
+    both_choices(plus, 1, 0);
+    let minus = with(plus, links(3, 0, 1, 4));
+    both_choices(minus, 1, 0);
+    let card = with(empty(3), busy(switch(6, 0, 5)));
+    both_choices(card, 5, 2);
+    both_choices(with(card, switch(7, 0, 5)), 5, 2);
+}
+
+// 5, after 16 and 10 and before 11.
+fn bad_choices() {
+    let stuck = with(empty(1), links(1, 0, 0, 7));
+    chosen(0, stuck, 0, 1, 2);
+    chosen(0, stuck, 0, 1, 255);
+    chosen(0, stuck, 0, 2, 2);
+    chosen(0, empty(13), 0, 0, 2);
+}
+
+fn both_choices(book: Book, source: u16, destination: u16) {
+    chosen(0, book, source, destination, 0);
+    chosen(0, book, source, destination, 1);
+}
+
 fn route(example: u64, book: Book, source: u16, destination: u16) {
+    chosen(example, book, source, destination, 0);
+}
+
+fn chosen(example: u64, book: Book, source: u16, destination: u16, choice: u8) {
     word(b"ROUTE");
     number(example);
     number(source as u64);
     number(destination as u64);
-    match router::route(book, source, destination) {
+    match router::route(book, source, destination, choice) {
         Found::Tag(tag) => {
             word(b" TAG");
             number(tag as u64);

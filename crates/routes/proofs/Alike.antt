@@ -1,5 +1,5 @@
 -- What a route depends on: its tag or stage on which links are stopped, the number that it names on the notices.
-use mathlib.Core.Path.{_≡_, sym, ap₂, subst, _∙_}
+use mathlib.Core.Path.{_≡_, refl, sym, ap, ap₂, subst, _∙_}
 use mathlib.Core.Bool.{Bool, false, _||_}
 use mathlib.Core.List.{List, [], _∷_, List·Memᴰ}
 use mathlib.Core.Logic.{⊎-elim, _↔_}
@@ -15,10 +15,12 @@ use Rattle.paths.proofs.Alike.{alike-clear, alike-by-any-number}
 use Rattle.paths.proofs.Named.{stage-once}
 use Rattle.notices.specs.declared.Notice.{Notice}
 use Rattle.notices.specs.Notices.{unfit}
+use Rattle.notices.specs.Classes.{badClass, counts}
+use Rattle.standing.specs.Picked.{those}
 use Rattle.standing.specs.Rising.{Filed}
 use Rattle.standing.proofs.Members.{same-notices}
 use Rattle.book.specs.declared.Book.{Book}
-use Rattle.book.specs.Standing.{standing, unsound, stopper, stopsOf}
+use Rattle.book.specs.Standing.{standing, unsound, stopper, counted, countedStops}
 use Rattle.book.proofs.Filings.{sound-if}
 use Rattle.routes.specs.declared.Found.{Found}
 use Rattle.routes.specs.Routed.{Routed, routeChecks, Routes, SameTagOrStage}
@@ -79,41 +81,49 @@ module _ (n s d : ℕ) (f : Rule) where
       )
 
 -- two sound books of one size have one list of checks
-same-checks : (b c : Book) (s d : ℕ) → unsound b ≡ false → unsound c ≡ false → b .n ≡ c .n → routeChecks b s d ≡ routeChecks c s d
-same-checks b c s d sb sc size-same = ap₂ (λ (u : Bool) (m : ℕ). (16 when u) ∷ (10 when (s notBelow size m || d notBelow size m)) ∷ []) (sb ∙ sym sc) size-same
+same-checks : (b c : Book) (s d p q : ℕ) → unsound b ≡ false → unsound c ≡ false → b .n ≡ c .n → badClass p ≡ badClass q → routeChecks b s d p ≡ routeChecks c s d q
+same-checks b c s d p q sb sc size-same choices =
+    ap₂ (λ (u : Bool) (m : ℕ). (16 when u) ∷ (10 when (s notBelow size m || d notBelow size m)) ∷ (5 when badClass p) ∷ []) (sb ∙ sym sc) size-same
+    ∙ ap (λ (bad : Bool). (16 when unsound c) ∷ (10 when (s notBelow size (c .n) || d notBelow size (c .n))) ∷ (5 when bad) ∷ []) choices
 
--- over books: the same stopped links give the same tag, or the same stage
-pub same-stops-same-route : (b c : Book) (s d : ℕ) (x y : Found) → unsound b ≡ false → unsound c ≡ false → b .n ≡ c .n → Alike (stopsOf b) (stopsOf c)
-    → Routes b s d x → Routes c s d y → SameTagOrStage x y
-same-stops-same-route b c s d x y sb sc size-same same p q =
+-- over books, for each choice: the same stopped links give the same tag, or the same stage
+pub same-stops-same-route : (b c : Book) (s d choice : ℕ) (x y : Found) → unsound b ≡ false → unsound c ≡ false → b .n ≡ c .n
+    → Alike (countedStops choice b) (countedStops choice c) → Routes b s d choice x → Routes c s d choice y → SameTagOrStage x y
+same-stops-same-route b c s d choice x y sb sc size-same same p q =
     ⊎-elim
     (λ g. same-itself x y (found-tells x y (g .0) (p .refuses (g .0) (g .1)) (q .refuses (g .0) (subst (Given (g .0)) checks (g .1)))))
     (λ w.
-    let r : Routed (c .n) (stopsOf b) s d x = subst (λ (m : ℕ). Routed m (stopsOf b) s d x) size-same (p .routes w) in
-    routed-alike (c .n) s d (stopsOf b) (stopsOf c) same x y r (q .routes (subst Passed checks w)))
-    (given-or-passed (routeChecks b s d))
+    let r : Routed (c .n) (countedStops choice b) s d x = subst (λ (m : ℕ). Routed m (countedStops choice b) s d x) size-same (p .routes w) in
+    routed-alike (c .n) s d (countedStops choice b) (countedStops choice c) same x y r (q .routes (subst Passed checks w)))
+    (given-or-passed (routeChecks b s d choice))
   where
-    checks : routeChecks b s d ≡ routeChecks c s d
-    checks = same-checks b c s d sb sc size-same
+    checks : routeChecks b s d choice ≡ routeChecks c s d choice
+    checks = same-checks b c s d choice choice sb sc size-same refl
 
--- the same notices give the same answer, all of it
-pub same-notices-same-route : (b c : Book) (s d : ℕ) (x y : Found) → length (b .notices) ≡ 48 → length (c .notices) ≡ 48
-    → unsound b ≡ false → unsound c ≡ false → b .n ≡ c .n → ((z : Notice) → List·Memᴰ z (standing b) ↔ List·Memᴰ z (standing c))
-    → Routes b s d x → Routes c s d y → x ≡ y
-same-notices-same-route b c s d x y pb pc sb sc size-same same p q =
+-- the same counted notices give the same answer, all of it, whatever the two choices are
+pub same-counted-same-route : (b c : Book) (s d u v : ℕ) (x y : Found) → unsound b ≡ false → unsound c ≡ false → b .n ≡ c .n → badClass u ≡ badClass v
+    → counted u b ≡ counted v c → Routes b s d u x → Routes c s d v y → x ≡ y
+same-counted-same-route b c s d u v x y sb sc size-same choices same p q =
     ⊎-elim
     (λ g. found-tells x y (g .0) (p .refuses (g .0) (g .1)) (q .refuses (g .0) (subst (Given (g .0)) checks (g .1))))
-    (λ w. routed-once (c .n) (stopsOf c) s d x y (over (p .routes w)) (q .routes (subst Passed checks w)))
-    (given-or-passed (routeChecks b s d))
+    (λ w. routed-once (c .n) (countedStops v c) s d x y (over (p .routes w)) (q .routes (subst Passed checks w)))
+    (given-or-passed (routeChecks b s d u))
   where
-    checks : routeChecks b s d ≡ routeChecks c s d
-    checks = same-checks b c s d sb sc size-same
+    checks : routeChecks b s d u ≡ routeChecks c s d v
+    checks = same-checks b c s d u v sb sc size-same choices
 
+    over : Routed (b .n) (countedStops u b) s d x → Routed (c .n) (countedStops v c) s d x
+    over r = subst (λ (l : List Notice). Routed (c .n) (stopper (c .n) l) s d x) same (subst (λ (m : ℕ). Routed m (stopper m (counted u b)) s d x) size-same r)
+
+-- so do the same standing notices, for each choice
+pub same-notices-same-route : (b c : Book) (s d choice : ℕ) (x y : Found) → length (b .notices) ≡ 48 → length (c .notices) ≡ 48
+    → unsound b ≡ false → unsound c ≡ false → b .n ≡ c .n → ((z : Notice) → List·Memᴰ z (standing b) ↔ List·Memᴰ z (standing c))
+    → Routes b s d choice x → Routes c s d choice y → x ≡ y
+same-notices-same-route b c s d choice x y pb pc sb sc size-same same =
+    same-counted-same-route b c s d choice choice x y sb sc size-same refl (ap (those (counts choice)) stand)
+  where
     filed : Filed (unfit (c .n)) 0 (standing b)
     filed = subst (λ (m : ℕ). Filed (unfit m) 0 (standing b)) size-same (sound-if b pb sb .filed)
 
     stand : standing b ≡ standing c
     stand = same-notices (unfit (c .n)) (standing c) (standing b) 0 0 (sound-if c pc sc .filed) filed (λ z. same z .0) (λ z. same z .1)
-
-    over : Routed (b .n) (stopsOf b) s d x → Routed (c .n) (stopsOf c) s d x
-    over r = subst (λ (l : List Notice). Routed (c .n) (stopper (c .n) l) s d x) stand (subst (λ (m : ℕ). Routed m (stopper m (standing b)) s d x) size-same r)

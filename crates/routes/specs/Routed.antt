@@ -1,4 +1,4 @@
--- Document 01, 'Tags and steps' and 'Numbers handed back', and document 02, §2: what a route answers. The theorems named here stand in proofs/Once.antt,
+-- Document 01, 'Tags and steps' and 'Numbers handed back', and document 02, §2 and §5: what a route answers. The theorems named here stand in proofs/Once.antt,
 -- over any rule, and in proofs/Entries.antt, over a book, unless another file is named.
 use mathlib.Core.Path.{_≡_}
 use mathlib.Core.Bool.{true, _||_}
@@ -13,8 +13,9 @@ use Rattle.paths.specs.Clear.{Rule, ClearPath, First, StageNamed}
 use Rattle.paths.specs.Ways.{Way, NumberNamed}
 use Rattle.notices.specs.declared.Notice.{Notice}
 use Rattle.notices.specs.Notices.{names}
+use Rattle.notices.specs.Classes.{badClass}
 use Rattle.book.specs.declared.Book.{Book}
-use Rattle.book.specs.Standing.{stopper, stopsOf}
+use Rattle.book.specs.Standing.{stopper, countedStops}
 use Rattle.book.specs.Entries.{bookChecks}
 use Rattle.routes.specs.declared.Found.{Found}
 
@@ -32,15 +33,16 @@ Routed n stops s d (Found.Tag t) = (cs : List ℕ) × First n stops s d cs × (t
 Routed n stops s d (Found.None i k) = ((cs : List ℕ) → ClearPath n stops s d cs → ⊥) × StageNamed n stops s d i × NumberNamed n stops s d i k
 Routed n stops s d (Found.Refused r) = ⊥
 
--- "route: 16, 10", and then. `route-order` reads the numbers off, `route-lets-pass` says what passes.
-abbrev pub routeChecks : Book → ℕ → ℕ → List Check
-routeChecks b s d = bookChecks b ++ (10 when (s notBelow size (b .n) || d notBelow size (b .n))) ∷ []
+-- "route: 16, 10", and a choice above 1 "is 5, .. for a route between 10 and 11". `route-order` reads the numbers off, `route-lets-pass` says what passes.
+abbrev pub routeChecks : Book → ℕ → ℕ → ℕ → List Check
+routeChecks b s d choice = bookChecks b ++ (10 when (s notBelow size (b .n) || d notBelow size (b .n))) ∷ (5 when badClass choice) ∷ []
 
--- Past them, what 01 says of all paths over the links that the book stops: `tag-exactly` and `eleven-exactly` say when a tag is given and
--- when 11; `route-once`: no second answer.
-pub record Routes (b : Book) (s d : ℕ) (answer : Found) : Type 0 where
-  pub refuses : (k : ℕ) → Given k (routeChecks b s d) → routeSays answer ≡ refused k
-  pub routes : Passed (routeChecks b s d) → Routed (b .n) (stopsOf b) s d answer
+-- Past them, what 01 says of all paths over the links that are "stopped by a counted notice": `tag-exactly` and `eleven-exactly` say when a tag is given and
+-- when 11; `route-once`: no second answer. `all-counted-route` says that choice 0 is over all links that the book stops, `broken-alone-route` that choice 1 is a route
+-- over a book of the broken notices alone (proofs/Choices.antt).
+pub record Routes (b : Book) (s d choice : ℕ) (answer : Found) : Type 0 where
+  pub refuses : (k : ℕ) → Given k (routeChecks b s d choice) → routeSays answer ≡ refused k
+  pub routes : Passed (routeChecks b s d choice) → Routed (b .n) (countedStops choice b) s d answer
 
 -- a notice of a list that stops a way onward at stage i: among notices by rising number, as they stand in a book, the number named is the lowest of one
 -- that does, `number-by-notices` (proofs/Numbers.antt)

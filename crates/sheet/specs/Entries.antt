@@ -1,5 +1,4 @@
--- Document 01, 'Numbers handed back', "Entries and order of checks": sheet header, whether action k is there, and its
--- part.
+-- Document 01, 'Numbers handed back', "Entries and order of checks", and document 02, §5: sheet header, whether action k is there, and its part.
 use mathlib.Core.Path.{_≡_}
 use mathlib.Core.Bool.{Bool, not, _||_}
 use mathlib.Core.List.{List, [], _∷_, _++_}
@@ -12,14 +11,17 @@ use Rattle.table.specs.Reply.{Reply, refused, answerSays}
 use Rattle.table.specs.Checks.{Check, checked, _when_, _below_, _notBelow_}
 use Rattle.fabric.specs.Labels.{outsideSizes}
 use Rattle.sheet.specs.declared.Header.{Header}
-use Rattle.actions.specs.Layout.{actionLength, headerLength, bytesBefore}
-use Rattle.actions.specs.Format.{word}
-use Rattle.sheet.specs.Format.{sizeIn, countIn}
+use Rattle.actions.specs.Layout.{headerLength, bytesBefore}
+use Rattle.sheet.specs.Format.{versionIn, sizeIn, countIn, eachIn}
 
 -- the number and values of each answer: `header-exactly`, `header-numbered`
 abbrev pub headerSays : Header → Reply
-headerSays (Header.Sheet n count) = Reply.accepted (n ∷ count ∷ [])
+headerSays (Header.Sheet n count version) = Reply.accepted (n ∷ count ∷ version ∷ [])
 headerSays (Header.Refused why) = refused (numberOf why)
+
+-- "Version 1 sheets still read", beside version 2: `versions-pass`
+abbrev pub wrongVersion : ℕ → Bool
+wrongVersion version = not (eqb version 1 || eqb version 2)
 
 -- 14: "sheet under 8 bytes, wrong mark or version": `fourteen-exactly` says that it is where no header stands at the front
 abbrev pub wrongMark : List ℕ → Bool
@@ -28,19 +30,19 @@ wrongMark sheet =
     || not (eqb (getD sheet 0 0) 70)
     || not (eqb (getD sheet 1 0) 83)
     || not (eqb (getD sheet 2 0) 72)
-    || not (eqb (word sheet 3) 1)
+    || wrongVersion (versionIn sheet)
 
 -- 15: "action count above 4,096, or wrong sheet length": `fifteen-exactly`
 abbrev pub wrongLength : List ℕ → Bool
-wrongLength sheet = 4096 below countIn sheet || not (eqb (length sheet) (bytesBefore (countIn sheet)))
+wrongLength sheet = 4096 below countIn sheet || not (eqb (length sheet) (bytesBefore (eachIn sheet) (countIn sheet)))
 
--- "sheet header: 14, 1, 15; otherwise it answers n and the count.": `header-order`, `one-exactly`, `header-exactly`
+-- "sheet header: 14, 1, 15; otherwise it answers n and the count.", and the version: `header-order`, `one-exactly`, `header-exactly`
 abbrev pub headerChecks : List ℕ → List Check
 headerChecks sheet =
     (14 when wrongMark sheet) ∷ (1 when outsideSizes (sizeIn sheet)) ∷ (15 when wrongLength sheet) ∷ []
 
 pub record ReadsHeader (sheet : List ℕ) (answer : Header) : Type 0 where
-  pub says : headerSays answer ≡ checked (headerChecks sheet) refused (Reply.accepted (sizeIn sheet ∷ countIn sheet ∷ []))
+  pub says : headerSays answer ≡ checked (headerChecks sheet) refused (Reply.accepted (sizeIn sheet ∷ countIn sheet ∷ versionIn sheet ∷ []))
 
 -- "For a sheet and k, counted from 0, one entry says whether the action is there: a bad header gives the header's number, k
 -- not below the count gives 13.": `there-order`, `there-exactly`
@@ -51,10 +53,10 @@ pub record HasAction (sheet : List ℕ) (k : ℕ) (answer : Answer) : Type 0 whe
   pub says : answerSays answer ≡ checked (thereChecks sheet k) refused (Reply.accepted [])
 
 -- "A second entry returns a part only: where the first accepts, action k is handed back as those ten bytes of the sheet
--- themselves; otherwise the empty part at the sheet's front.": where in the sheet the part starts, and its bytes:
--- `part-bytes`, `part-is-ten`, `part-empty`
+-- themselves; otherwise the empty part at the sheet's front.", and "Where 01 says ten, such a sheet has eleven": where in the sheet the part starts, and
+-- its bytes: `part-bytes`, `part-is-each`, `part-empty`
 abbrev pub startOf : List ℕ → ℕ → ℕ
-startOf sheet k = checked (thereChecks sheet k) (λ j. 0) (bytesBefore k)
+startOf sheet k = checked (thereChecks sheet k) (λ j. 0) (bytesBefore (eachIn sheet) k)
 
 abbrev pub partOf : List ℕ → ℕ → List ℕ
-partOf sheet k = checked (thereChecks sheet k) (λ j. []) (take actionLength (drop (bytesBefore k) sheet))
+partOf sheet k = checked (thereChecks sheet k) (λ j. []) (take (eachIn sheet) (drop (bytesBefore (eachIn sheet) k) sheet))

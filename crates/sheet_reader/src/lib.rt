@@ -1,5 +1,5 @@
-// Document 01, 'The sheet and what is printed': a sheet's header, and the parts of a sheet that are its actions.
-use actions::ACTION_LENGTH;
+// Document 01, 'The sheet and what is printed', and document 02, §5: a sheet's header, and the parts of a sheet that are its actions.
+use action_bytes::word_at;
 use actions::HEADER_LENGTH;
 use sheet::Header;
 use table::Answer;
@@ -9,7 +9,23 @@ ghost use mathlib.Core.Bool.{false};
 ghost use Prim.Native.Nat.{_+_, _≤_};
 ghost use lib.ListN.{length};
 ghost use Rattle.actions.specs.Layout.{headerLength};
-ghost use Rattle.sheet.specs.Entries.{wrongMark, wrongLength, ReadsHeader, HasAction, startOf, partOf};
+ghost use Rattle.sheet.specs.Format.{eachIn};
+ghost use Rattle.sheet.specs.Entries.{wrongVersion, wrongMark, wrongLength, ReadsHeader, HasAction, startOf, partOf};
+
+// "Version 1 sheets still read", beside version 2.
+fn wrong_version(version: u16) -> bool
+    ensures { λ r. ⌜ r ≡ wrongVersion version ⌝ }
+{
+    table::both(version != 1, version != 2)
+}
+
+// How many bytes each action has.
+pub fn each_in(sheet: &[u8]) -> usize
+    requires { ⌜ headerLength ≤ length (now sheet) ⌝ }
+    ensures { λ r. ⌜ (r ≡ eachIn (now (sheet .entry))) × (r ≤ 11) ⌝ }
+{
+    action_bytes::action_length(word_at(sheet, 3))
+}
 
 // 14
 fn wrong_mark(sheet: &[u8]) -> bool
@@ -27,7 +43,7 @@ fn wrong_mark(sheet: &[u8]) -> bool
     if sheet[2] != b'H' {
         return true;
     }
-    action_bytes::word_at(sheet, 3) != 1
+    wrong_version(word_at(sheet, 3))
 }
 
 // 15
@@ -35,14 +51,14 @@ fn wrong_length(sheet: &[u8]) -> bool
     requires { ⌜ headerLength ≤ length (now sheet) ⌝ }
     ensures { λ r. ⌜ r ≡ wrongLength (now (sheet .entry)) ⌝ }
 {
-    let count = action_bytes::word_at(sheet, 6);
+    let count = word_at(sheet, 6);
     if 4096 < count {
         return true;
     }
-    sheet.len() != HEADER_LENGTH + ACTION_LENGTH * count as usize
+    sheet.len() != HEADER_LENGTH + each_in(sheet) * count as usize
 }
 
-// "sheet header: 14, 1, 15; otherwise it answers n and the count."
+// "sheet header: 14, 1, 15; otherwise it answers n and the count.", and the version
 pub fn read_header(sheet: &[u8]) -> Header
     ensures { λ r. ⌜ ReadsHeader (now (sheet .entry)) r ⌝ }
 {
@@ -58,7 +74,8 @@ pub fn read_header(sheet: &[u8]) -> Header
     }
     Header::Sheet {
         n,
-        count: action_bytes::word_at(sheet, 6),
+        count: word_at(sheet, 6),
+        version: word_at(sheet, 3),
     }
 }
 
@@ -68,7 +85,11 @@ pub fn has_action(sheet: &[u8], k: usize) -> Answer
 {
     match read_header(sheet) {
         Header::Refused(why) => Answer::Refused(why),
-        Header::Sheet { n: _, count } => {
+        Header::Sheet {
+            n: _,
+            count,
+            version: _,
+        } => {
             if count as usize <= k {
                 return Answer::Refused(Refusal::Room);
             }
@@ -77,15 +98,16 @@ pub fn has_action(sheet: &[u8], k: usize) -> Answer
     }
 }
 
-// "action k is handed back as those ten bytes of the sheet themselves; otherwise the empty part at the sheet's front."
+// "action k is handed back as those ten bytes of the sheet themselves", or eleven; "otherwise the empty part at the sheet's front."
 pub fn action_part<'a>(sheet: &'a [u8], k: usize) -> &'a [u8]
     ensures { λ r. ⌜ now r ≡ partOf (now (sheet .entry)) k ⌝ }
     ensures { λ r. ⌜ (r .ptr .0 ≡ sheet .entry .ptr .0) × (r .ptr .1 ≡ startOf (now (sheet .entry)) k + sheet .entry .ptr .1) ⌝ }
 {
     match has_action(sheet, k) {
         Answer::Done => {
-            let start = HEADER_LENGTH + ACTION_LENGTH * k;
-            let end = start + ACTION_LENGTH;
+            let each = each_in(sheet);
+            let start = HEADER_LENGTH + each * k;
+            let end = start + each;
             &sheet[start..end]
         }
         Answer::Refused(_) => &sheet[0..0],

@@ -126,7 +126,7 @@ further l m o r s =
 
 -- two notices by falling number
 abbrev pub falling : List Notice
-falling = record { number = 7; target = Links 0 1 4 } ∷ record { number = 3; target = Links 0 1 4 } ∷ []
+falling = record { number = 7; target = Links 0 1 4; class = 0 } ∷ record { number = 3; target = Links 0 1 4; class = 0 } ∷ []
 
 pub falling-distinct : Distinct falling
 unfolding Distinct

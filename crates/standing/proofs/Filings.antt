@@ -1,5 +1,5 @@
 -- The tests of notices by rising number, and of unused places; and the 48 places in which a list stands.
-use mathlib.Core.Path.{_≡_, refl, sym, ap₂}
+use mathlib.Core.Path.{_≡_, refl, sym, ap, ap₂, _∙_}
 use mathlib.Core.Bool.{Bool, true, false, not, _&&_, true≢false}
 use mathlib.Core.List.{List, [], _∷_}
 use Prim.Native.Nat.{ℕ, zero, suc, _-_, _≤_}
@@ -40,8 +40,12 @@ first-target (Pattern stage value mask s) e = absurd (true≢false (sym e))
 
 pub is-filler : (x : Notice) → isFiller x ≡ true → x ≡ filler
 is-filler x e =
-    let o = both-hold (eqb (x .number) 0) (isFirstTarget (x .target)) .0 e in
-    ap₂ (λ (k : ℕ) (t : Target). record { number = k; target = t }) (eqb-true (x .number) 0 (o .0)) (first-target (x .target) (o .1))
+    let o = both-hold (eqb (x .number) 0 && isFirstTarget (x .target)) (eqb (x .class) 0) .0 e in
+    let p = both-hold (eqb (x .number) 0) (isFirstTarget (x .target)) .0 (o .0) in
+    same (eqb-true (x .number) 0 (p .0)) (first-target (x .target) (p .1)) (eqb-true (x .class) 0 (o .1))
+  where
+    same : x .number ≡ 0 → x .target ≡ Links 0 0 0 → x .class ≡ 0 → x ≡ filler
+    same k t q = ap₂ (λ (m : ℕ) (u : Target). record { number = m; target = u; class = x .class }) k t ∙ ap (λ (m : ℕ). record { number = 0; target = Links 0 0 0; class = m }) q
 
 pub unlittered : (l : List Notice) → littered l ≡ false → l ≡ replicate (length l) filler
 unfolding littered

@@ -14,7 +14,7 @@ use Rattle.standing.specs.Picked.{some, those}
 -- What an unused place of the array holds. Not document 01's: any notice would do, since no place after those in use is read
 -- as a notice.
 abbrev pub filler : Notice
-filler = record { number = 0; target = Links 0 0 0 }
+filler = record { number = 0; target = Links 0 0 0; class = 0 }
 
 -- The 48 places of the array that holds a book's notices, where those of a list stand: the list, and the filler in every place after it:
 -- `places-first`, `places-after`, `places-in-all` (proofs/Filings).
@@ -62,7 +62,7 @@ isFirstTarget (Pattern stage value mask set) = false
 
 -- whether a place holds the filler (`is-filler`, proofs/Filings)
 abbrev pub isFiller : Notice → Bool
-isFiller x = eqb (x .number) 0 && isFirstTarget (x .target)
+isFiller x = eqb (x .number) 0 && isFirstTarget (x .target) && eqb (x .class) 0
 
 -- some place holds something else than the filler (`unlittered`, `filler-unlittered`, proofs/Filings)
 unfoldable pub littered : List Notice → Bool

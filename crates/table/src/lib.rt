@@ -14,7 +14,7 @@ pub enum Refusal {
     Zero,
     // stage, column or switch outside the fabric
     Place,
-    // set outside 1 to 7, mask bit at n or above, value outside the mask
+    // set outside 1 to 7, mask bit at n or above, value outside the mask, class or choice above 1
     Field,
     // pattern too wide
     Wide,
@@ -28,7 +28,7 @@ pub enum Refusal {
     Label,
     // tag not below 2^(2n), or a code above 2
     Tag,
-    // lent memory too short, no action k in the sheet, or an action part not ten bytes long
+    // lent memory too short, no action k in the sheet, or an action part of neither ten bytes nor eleven
     Room,
     // sheet under 8 bytes, wrong mark or version
     Mark,

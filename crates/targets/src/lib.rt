@@ -1,11 +1,12 @@
-// Document 01, 'Notices', and document 02, §3: which links a notice names, and the checks 4, 5 and 6 of a notice.
+// Document 01, 'Notices', and document 02, §3 and §5: which links a notice names, the checks 4, 5 and 6 of a notice, and which routes count it.
 use notices::Notice;
 use notices::Target;
 ghost use mathlib.Core.Path.{_≡_};
 ghost use Prim.Native.Nat.{ℕ, _≤_, _<_};
 ghost use Rattle.fabric.specs.Links.{lands};
 ghost use Rattle.notices.specs.declared.Target.the-variants.{Switch};
-ghost use Rattle.notices.specs.Targets.{setHas, badSet, targetNames};
+ghost use Rattle.notices.specs.Classes.{badClass, counts};
+ghost use Rattle.notices.specs.Targets.{setHas, badSet, targetNames, targetBad};
 ghost use Rattle.notices.specs.Notices.{names, outsideFabric, badField, tooWide, unfit};
 
 // Whether a set has the link of a code.
@@ -83,10 +84,10 @@ fn bad_set(set: u8) -> bool
     table::either(set < 1, 7 < set)
 }
 
-// 5
-pub fn bad_field(n: u8, x: Notice) -> bool
+// 5, of the target
+fn bad_target(n: u8, x: Notice) -> bool
     requires { ⌜ n ≤ 12 ⌝ }
-    ensures { λ r. ⌜ r ≡ badField n x ⌝ }
+    ensures { λ r. ⌜ r ≡ targetBad n (x .target) ⌝ }
 {
     let t = x.target;
     match t {
@@ -111,6 +112,28 @@ pub fn bad_field(n: u8, x: Notice) -> bool
             )
         }
     }
+}
+
+// A class above 1, or a choice.
+pub fn bad_class(class: u8) -> bool
+    ensures { λ r. ⌜ r ≡ badClass class ⌝ }
+{
+    1 < class
+}
+
+// 5
+pub fn bad_field(n: u8, x: Notice) -> bool
+    requires { ⌜ n ≤ 12 ⌝ }
+    ensures { λ r. ⌜ r ≡ badField n x ⌝ }
+{
+    table::either(bad_target(n, x), bad_class(x.class))
+}
+
+// Whether a route of this choice counts the notice.
+pub fn counts(choice: u8, x: Notice) -> bool
+    ensures { λ r. ⌜ r ≡ counts choice x ⌝ }
+{
+    table::either(choice == 0, x.class == 0)
 }
 
 // 6

@@ -24,7 +24,7 @@ use Rattle.changes.proofs.Changes.{Good}
 use Rattle.changes.proofs.Reach.{good-run, good-sound, opened-good, opened-is}
 use Rattle.changes.proofs.Since.{stands-exactly, same-book}
 use Rattle.written.specs.declared.Written.{Written}
-use Rattle.written.specs.Sheets.{sheetOf, Writes}
+use Rattle.written.specs.Sheets.{versionFor, eachFor, sheetOf, Writes}
 use Rattle.written.proofs.Entries.{sheet-answered}
 use Rattle.changes.proofs.Sounds.{good-places}
 use Rattle.written.proofs.Round.{header-of-sheet, runs-to-itself}
@@ -51,17 +51,17 @@ module _ (n : ℕ) (legal : outsideSizes n ≡ false) (changes : List Change) wh
 
   -- "a header and one filing per standing notice, by rising number"
   pub sheet-since : (bad : Notice → Bool) (l : List Notice) → Filed bad 0 l → ((x : Notice) → List·Memᴰ x l ↔ StandsSince (opened n) changes x)
-      → sheetOf end ≡ headerBytes n (length l) ++ rows l
+      → sheetOf end ≡ headerBytes (versionFor l) n (length l) ++ rows (eachFor l) l
   sheet-since bad l rising these =
       let same : l ≡ standing end =
       same-notices (λ x. false) (standing end) l 0 0 (filed-only (unfit n) 0 (standing end) (end-good .filed)) (filed-only bad 0 l rising)
       (λ x h. stands-exactly n changes x .1 (these x .0 h))
       (λ x h. these x .1 (stands-exactly n changes x .0 h)) in
-      ap₂ (λ (m : ℕ) (k : List Notice). headerBytes m (length k) ++ rows k) same-size (sym same)
+      ap₂ (λ (m : ℕ) (k : List Notice). headerBytes (versionFor k) m (length k) ++ rows (eachFor k) k) same-size (sym same)
 
   -- so are the bytes that writing leaves after a run
   pub written-since : (before left : List ℕ) (bytes : ℕ) → Writes end before left (Written.Sheet bytes) → (bad : Notice → Bool) (l : List Notice) → Filed bad 0 l
-      → ((x : Notice) → List·Memᴰ x l ↔ StandsSince (opened n) changes x) → take bytes left ≡ headerBytes n (length l) ++ rows l
+      → ((x : Notice) → List·Memᴰ x l ↔ StandsSince (opened n) changes x) → take bytes left ≡ headerBytes (versionFor l) n (length l) ++ rows (eachFor l) l
   written-since before left bytes w bad l rising these = sheet-answered (bookChecks end) end before left (Written.Sheet bytes) w bytes refl .2 ∙ sheet-since bad l rising these
 
   -- there is such a list for every run
@@ -74,8 +74,8 @@ module _ (n : ℕ) (legal : outsideSizes n ≡ false) (changes : List Change) wh
   sheet-any-order l distinct these = ap sheetOf (same-book n changes l distinct these .0)
 
   -- so a sheet that was run may be left for the one that is written: it makes the same book
-  pub sheet-stands-in : ReadsHeader (sheetOf end) (Header.Sheet n (length (standing end))) × After (sheetOf end) n (length (standing end)) end
+  pub sheet-stands-in : ReadsHeader (sheetOf end) (Header.Sheet n (length (standing end)) (versionFor (standing end))) × After (sheetOf end) n (length (standing end)) end
   sheet-stands-in = (
-    subst (λ (m : ℕ). ReadsHeader (sheetOf end) (Header.Sheet m (length (standing end)))) same-size (header-of-sheet end (end-sound .0) (end-sound .1)),
+    subst (λ (m : ℕ). ReadsHeader (sheetOf end) (Header.Sheet m (length (standing end)) (versionFor (standing end)))) same-size (header-of-sheet end (end-sound .0) (end-sound .1)),
     subst (λ (m : ℕ). After (sheetOf end) m (length (standing end)) end) same-size (runs-to-itself end (end-sound .0) (end-sound .1)),
   )

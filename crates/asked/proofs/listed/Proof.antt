@@ -29,11 +29,11 @@ returns c =
     let m = start .args .memory .now in
     let n : length (b .notices) ≡ 48 = search (needs, length-mapped) in
     let l = length-standing b (start .pre) n in
-    let g : Given 13 (listingChecks b m) = later (sound-passes b (start .pre)) (here (lt-ltb (length m) (10 * length (standing b)) (omega arith)) refl) in
+    let g : Given 13 (listingChecks b m) = later (sound-passes b (start .pre)) (here (lt-ltb (length m) (11 * length (standing b)) (omega arith)) refl) in
     record { says = sym (given-refuses refused _ 13 (listingChecks b m) g); leaves = sym (given-refuses (λ k. m) _ 13 (listingChecks b m) g) }
 
 laid-requires : tie.Need-laid-requires
-laid-requires c κs = (c .before .before .before .before .pre .fits, search needs)
+laid-requires c κs = (c .before .before .before .before .pre .fits, omega arith, search needs)
 
 same-length : tie.Need-same-length
 same-length c = search needs
@@ -45,10 +45,10 @@ returns-2 c =
     let m = start .args .memory .now in
     let n : length (b .notices) ≡ 48 = search (needs, length-mapped) in
     let l = length-standing b (start .pre) n in
-    let p : Passed (listingChecks b m) = passes (sound-passes b (start .pre)) (passes (le-ltb (length m) (10 * length (standing b)) (omega arith)) none) in
+    let p : Passed (listingChecks b m) = passes (sound-passes b (start .pre)) (passes (le-ltb (length m) (11 * length (standing b)) (omega arith)) none) in
     record {
       says = sym (passed-accepts refused _ (listingChecks b m) p ∙ ap (λ k. listingSays (Listing.Listed k)) l);
-      leaves = c .before .before .laid .ensures ∙ ap (λ k. rows (standing b) ++ drop k m) (ap (λ k. 10 * k) (sym l)) ∙ sym (passed-accepts (λ k. m) _ (listingChecks b m) p);
+      leaves = c .before .before .laid .ensures ∙ ap (λ k. rows 11 (standing b) ++ drop k m) (ap (λ k. 11 * k) (sym l)) ∙ sym (passed-accepts (λ k. m) _ (listingChecks b m) p);
     }
 
 pub listed-spec : {M : Type 1} → statement M

@@ -7,10 +7,10 @@ use Rattle.bench_routes.proofs.answer.Statement.{statement}
 use Rattle.bench_routes.proofs.answer.Tie as tie
 
 abbrev Inv-loop : tie.InvT-loop
-Inv-loop book pairs answers₀ k₀ answers k = length pairs / 2 ≡ length answers
+Inv-loop book choice pairs answers₀ k₀ answers k = length pairs / 2 ≡ length answers
 
 abbrev μ-loop : tie.MeasureT-loop
-μ-loop book pairs answers₀ k₀ answers k = length pairs / 2 - k
+μ-loop book choice pairs answers₀ k₀ answers k = length pairs / 2 - k
 
 loop-holds : tie.Need-loop-holds Inv-loop μ-loop
 loop-holds c = search needs

@@ -1,5 +1,5 @@
 -- The fields of a part that the action reader accepts, or its refusal.
-use Rattle.field_reader.proofs.Writing.{part-of-ten, fields-accepted, fields-refused}
+use Rattle.field_reader.proofs.Writing.{part-long, fields-accepted, fields-refused}
 use borrow.Author.Needs.{needs}
 use Rattle.field_reader.proofs.read_fields.Statement.{statement}
 use Rattle.field_reader.proofs.read_fields.Tie as tie
@@ -11,19 +11,19 @@ enum-told : tie.Need-enum-told
 enum-told c = search needs
 
 written-requires : tie.Need-written-requires
-written-requires c κs = part-of-ten _ tt (c .before .before .before .read-action .ensures) (c .before .enum-told .given .1)
+written-requires c κs = part-long _ tt (c .before .before .before .read-action .ensures) (c .before .enum-told .given .1)
 
 enum-told-2 : tie.Need-enum-told-2
 enum-told-2 c = search needs
 
 written-requires-2 : tie.Need-written-requires-2
-written-requires-2 c κs = part-of-ten _ tt (c .before .before .before .read-action .ensures) (c .before .enum-told2 .given .1)
+written-requires-2 c κs = part-long _ tt (c .before .before .before .read-action .ensures) (c .before .enum-told2 .given .1)
 
 enum-told-3 : tie.Need-enum-told-3
 enum-told-3 c = search needs
 
 written-requires-3 : tie.Need-written-requires-3
-written-requires-3 c κs = part-of-ten _ tt (c .before .before .before .read-action .ensures) (c .before .enum-told3 .given .1)
+written-requires-3 c κs = part-long _ tt (c .before .before .before .read-action .ensures) (c .before .enum-told3 .given .1)
 
 enum-known-why : tie.Need-enum-known-why
 enum-known-why c = search needs

@@ -1,4 +1,4 @@
--- Seven stores one after the other, each of what its call read: `sets-eq`.
+-- Eight stores one after the other, each of what its call read: `sets-eq`.
 use mathlib.Core.Path.{refl}
 use native.Mathlib.Omega.{arith}
 use lib.ListN.{length-set}
@@ -63,15 +63,24 @@ wide-requires-4 c κs = search needs
 slice-write-memory-7 : tie.Need-slice-write-memory-7
 slice-write-memory-7 c = simp length-set (omega arith)
 
+class-of-requires : tie.Need-class-of-requires
+class-of-requires c κs = search needs
+
+wide-requires-5 : tie.Need-wide-requires-5
+wide-requires-5 c κs = search needs
+
+slice-write-memory-8 : tie.Need-slice-write-memory-8
+slice-write-memory-8 c = simp length-set (omega arith)
+
 same-length : tie.Need-same-length
 same-length c = simp length-set refl
 
 returns : tie.Need-returns
 returns c =
-    let first = c .before .before .before .before .before .before .before .before .before in
+    let first = c .before .before .before .before .before .before .before .before .before .before .before in
     let entry = first .before .before .before .before in
     let a = entry .args in
-    rw (first .wide .ensures, c .before .before .before .before .before .before .before .before .word-at .ensures, c .before .before .before .before .before .before .wide2 .ensures, c .before .before .before .before .wide3 .ensures, c .before .before .before .word-at2 .ensures, c .before .before .word-at3 .ensures, c .wide4 .ensures)
+    rw (first .wide .ensures, c .before .before .before .before .before .before .before .before .before .before .word-at .ensures, c .before .before .before .before .before .before .before .before .wide2 .ensures, c .before .before .before .before .before .before .wide3 .ensures, c .before .before .before .before .before .word-at2 .ensures, c .before .before .before .before .word-at3 .ensures, c .before .before .wide4 .ensures, c .wide5 .ensures, c .before .class-of .ensures)
     (sets-eq (inOrder (fieldsOf (a .part .now))) (a .memory .now) 0 (entry .pre .1))
 
 pub write-spec : {M : Type 1} → statement M
@@ -96,5 +105,8 @@ write-spec =
     shared-slice-read-wide-4
     wide-requires-4
     slice-write-memory-7
+    class-of-requires
+    wide-requires-5
+    slice-write-memory-8
     same-length
     returns)

@@ -11,10 +11,10 @@ use Rattle.many_routes.proofs.answer.Statement.{statement}
 use Rattle.many_routes.proofs.answer.Tie as tie
 
 abbrev Inv-loop : tie.InvT-loop
-Inv-loop book pairs answers₀ count k₀ answers k = (k ≤ count) × Answered book pairs k answers₀ answers
+Inv-loop book choice pairs answers₀ count k₀ answers k = (k ≤ count) × Answered book choice pairs k answers₀ answers
 
 abbrev μ-loop : tie.MeasureT-loop
-μ-loop book pairs answers₀ count k₀ answers k = count - k
+μ-loop book choice pairs answers₀ count k₀ answers k = count - k
 
 loop-holds : tie.Need-loop-holds Inv-loop μ-loop
 loop-holds c = (omega arith, none-answered _)

@@ -1,4 +1,6 @@
--- The number of each case.
+-- The number of each case: the two bytes of the count make the count.
+use mathlib.Core.Path.{_∙_}
+use native.Mathlib.Omega.{arith}
 use borrow.Author.Needs.{needs}
 use Rattle.packer.proofs.header_told.Statement.{statement}
 use Rattle.packer.proofs.header_told.Tie as tie
@@ -18,6 +20,21 @@ mul-value c = search needs
 add-value : tie.Need-add-value
 add-value c = search needs
 
+mul-value-2 : tie.Need-mul-value-2
+mul-value-2 c = search needs
+
+mul-value-3 : tie.Need-mul-value-3
+mul-value-3 c = search needs
+
+cast-value-3 : tie.Need-cast-value-3
+cast-value-3 c = search needs
+
+mul-value-4 : tie.Need-mul-value-4
+mul-value-4 c = search needs
+
+add-value-2 : tie.Need-add-value-2
+add-value-2 c = search needs
+
 value-requires : tie.Need-value-requires
 value-requires c κs = search needs
 
@@ -28,7 +45,7 @@ refused-requires : tie.Need-refused-requires
 refused-requires c κs = search needs
 
 returns : tie.Need-returns
-returns c = rw (c .value .ensures, c .before .before .answer .given .1)
+returns c = c .value .ensures ∙ rw (c .before .before .answer .given .1) (omega arith)
 
 returns-2 : tie.Need-returns-2
 returns-2 c = search needs
@@ -42,6 +59,11 @@ header-told-spec =
     cast-value-2
     mul-value
     add-value
+    mul-value-2
+    mul-value-3
+    cast-value-3
+    mul-value-4
+    add-value-2
     value-requires
     enum-known-answer-2
     refused-requires

@@ -30,7 +30,7 @@ same-length-2 : tie.Need-same-length-2
 same-length-2 c = search needs
 
 returns-2 : tie.Need-returns-2
-returns-2 c = runs-as (c .before .before .before .before .before .before .before .read-header .ensures) (c .before .before .before .before .before .n .given .1) (c .before .before .whole-sheet .ensures)
+returns-2 c = runs-as (c .before .before .before .before .before .before .before .read-header .ensures) (c .before .before .before .before .before .n .given .1) (c .before .before .whole-sheet .ensures _)
 
 pub run-spec : {M : Type 1} → statement M
 run-spec =

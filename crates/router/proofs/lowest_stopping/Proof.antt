@@ -1,5 +1,6 @@
--- One pass: what is left of the standing notices still gives the whole list's lowest number.
-use mathlib.Core.Path.{_≡_, refl, sym, ap, _∙_}
+-- One pass: what is left of the standing notices still gives the lowest number of the whole list's counted ones.
+use mathlib.Core.Path.{_≡_, refl, sym, ap, ap₂, _∙_}
+use mathlib.Core.Bool.{Bool, _&&_}
 use mathlib.Core.List.{List, _∷_}
 use Prim.Native.Nat.{ℕ, _+_, _-_, _≤_, _<_}
 use native.Mathlib.Omega.{arith}
@@ -11,29 +12,29 @@ use Rattle.standing.proofs.Lowest.{lowest-here, lowest-later, lowest-nothing}
 use Rattle.standing.proofs.Reading.{length-mapped, next-of, none-left-of}
 use Rattle.book.specs.declared.Book.{Book}
 use Rattle.book.specs.Standing.{standing}
-use Rattle.router.specs.Told.{stopsOneOf}
+use Rattle.router.specs.Told.{countedStopsOneOf}
 use Rattle.router.proofs.Naming.{shared-stops}
 use Rattle.router.proofs.lowest_stopping.Statement.{statement}
 use Rattle.router.proofs.lowest_stopping.Tie as tie
 
 -- after the first k notices
-record After (book : Book) (straights forks : List ℕ) (stage ways k : ℕ) : Type 0 where
+record After (choice : ℕ) (book : Book) (straights forks : List ℕ) (stage ways k : ℕ) : Type 0 where
   within : k ≤ book .count
   places : book .count ≤ length (book .notices)
-  same : lowest (stopsOneOf (book .n) straights forks stage ways) (standing book) ≡ lowest (stopsOneOf (book .n) straights forks stage ways) (drop k (standing book))
+  same : lowest (countedStopsOneOf choice (book .n) straights forks stage ways) (standing book) ≡ lowest (countedStopsOneOf choice (book .n) straights forks stage ways) (drop k (standing book))
 
 abbrev Inv-loop : tie.InvT-loop
-Inv-loop straights forks stage ways book n count straight fork place₀ place = After book straights forks stage ways place
+Inv-loop choice straights forks stage ways book n count straight fork place₀ place = After choice book straights forks stage ways place
 
 abbrev μ-loop : tie.MeasureT-loop
-μ-loop straights forks stage ways book n count straight fork place₀ place = count - place
+μ-loop choice straights forks stage ways book n count straight fork place₀ place = count - place
 
 -- the notice in place k, and those after it
-left : (book : Book) (straights forks : List ℕ) (stage ways k : ℕ) → After book straights forks stage ways k → k < book .count
-    → lowest (stopsOneOf (book .n) straights forks stage ways) (standing book)
-    ≡ lowest (stopsOneOf (book .n) straights forks stage ways) (getD (book .notices) k filler ∷ drop (k + 1) (standing book))
-left book straights forks stage ways k after inside =
-    after .same ∙ ap (lowest (stopsOneOf (book .n) straights forks stage ways)) (next-of (book .count) (book .notices) filler k (after .places) inside)
+left : (choice : ℕ) (book : Book) (straights forks : List ℕ) (stage ways k : ℕ) → After choice book straights forks stage ways k → k < book .count
+    → lowest (countedStopsOneOf choice (book .n) straights forks stage ways) (standing book)
+    ≡ lowest (countedStopsOneOf choice (book .n) straights forks stage ways) (getD (book .notices) k filler ∷ drop (k + 1) (standing book))
+left choice book straights forks stage ways k after inside =
+    after .same ∙ ap (lowest (countedStopsOneOf choice (book .n) straights forks stage ways)) (next-of (book .count) (book .notices) filler k (after .places) inside)
 
 mul-straight : tie.Need-mul-straight Inv-loop μ-loop
 mul-straight c = search needs
@@ -67,14 +68,21 @@ named-at-requires c κs =
 in-common-requires : tie.Need-in-common-requires Inv-loop μ-loop
 in-common-requires c κs = search needs
 
+counts-requires : tie.Need-counts-requires Inv-loop μ-loop
+counts-requires c κs = search needs
+
+both-requires : tie.Need-both-requires Inv-loop μ-loop
+both-requires c κs = search needs
+
 returns : tie.Need-returns Inv-loop μ-loop
 returns c =
-    let s = c .before .before .before .before .before .before .before .before in
+    let s = c .before .before .before .before .before .before .before .before .before .before in
     let a = s .args in
-    let v = c .before .before .before .before .before .loop in
-    let inside = c .before .before .before .before .loop-test .taken in
-    let hit = sym (shared-stops (a .t1 .n) (a .straights .now) (a .forks .now) (a .stage) (a .ways) _ (getD (a .t1 .notices) (v .place) filler) (c .before .before .named-at .ensures)) ∙ sym (c .before .in-common .ensures) in
-    sym (left (a .t1) _ _ (a .stage) (a .ways) (v .place) (v .inv) inside ∙ lowest-here _ _ _ (hit ∙ c .if1 .taken))
+    let v = c .before .before .before .before .before .before .before .loop in
+    let inside = c .before .before .before .before .before .before .loop-test .taken in
+    let onward = c .before .before .before .in-common .ensures ∙ shared-stops (a .t1 .n) (a .straights .now) (a .forks .now) (a .stage) (a .ways) _ (getD (a .t1 .notices) (v .place) filler) (c .before .before .before .before .named-at .ensures) in
+    let hit = sym (ap₂ (λ (x y : Bool). x && y) (c .before .before .counts .ensures) onward) ∙ sym (c .before .both .ensures) in
+    sym (left (a .choice) (a .t1) _ _ (a .stage) (a .ways) (v .place) (v .inv) inside ∙ lowest-here _ _ _ (hit ∙ c .if1 .taken))
 
 add-place : tie.Need-add-place Inv-loop μ-loop
 add-place c = search needs
@@ -84,15 +92,16 @@ loop-less c = search needs
 
 loop-again : tie.Need-loop-again Inv-loop μ-loop
 loop-again c =
-    let s = c .before .before .before .before .before .before .before .before in
+    let s = c .before .before .before .before .before .before .before .before .before .before in
     let a = s .args in
-    let v = c .before .before .before .before .before .loop in
-    let inside = c .before .before .before .before .loop-test .taken in
-    let miss = sym (shared-stops (a .t1 .n) (a .straights .now) (a .forks .now) (a .stage) (a .ways) _ (getD (a .t1 .notices) (v .place) filler) (c .before .before .named-at .ensures)) ∙ sym (c .before .in-common .ensures) in
+    let v = c .before .before .before .before .before .before .before .loop in
+    let inside = c .before .before .before .before .before .before .loop-test .taken in
+    let onward = c .before .before .before .in-common .ensures ∙ shared-stops (a .t1 .n) (a .straights .now) (a .forks .now) (a .stage) (a .ways) _ (getD (a .t1 .notices) (v .place) filler) (c .before .before .before .before .named-at .ensures) in
+    let miss = sym (ap₂ (λ (x y : Bool). x && y) (c .before .before .counts .ensures) onward) ∙ sym (c .before .both .ensures) in
     record {
       within = search needs;
       places = v .inv .places;
-      same = left (a .t1) _ _ (a .stage) (a .ways) (v .place) (v .inv) inside ∙ lowest-later _ _ _ (miss ∙ c .if1 .left);
+      same = left (a .choice) (a .t1) _ _ (a .stage) (a .ways) (v .place) (v .inv) inside ∙ lowest-later _ _ _ (miss ∙ c .if1 .left);
     }
 
 returns-2 : tie.Need-returns-2 Inv-loop μ-loop
@@ -118,6 +127,8 @@ lowest-stopping-spec =
     element-copy-out-x
     named-at-requires
     in-common-requires
+    counts-requires
+    both-requires
     returns
     add-place
     loop-less

@@ -11,7 +11,7 @@ unsound-requires : tie.Need-unsound-requires
 unsound-requires c κs = search needs
 
 returns : tie.Need-returns
-returns c = route-refuses _ _ _ Refusal.Book (here (sym (c .before .unsound .ensures .0) ∙ c .if1 .taken) refl)
+returns c = route-refuses _ _ _ _ Refusal.Book (here (sym (c .before .unsound .ensures .0) ∙ c .if1 .taken) refl)
 
 routed-requires : tie.Need-routed-requires
 routed-requires c κs = c .before .unsound .ensures .1 (c .if1 .left)

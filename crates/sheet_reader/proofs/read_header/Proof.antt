@@ -30,6 +30,11 @@ returns-3 c = search (header-refuses, refusing) depth 10
 word-at-requires : tie.Need-word-at-requires
 word-at-requires c κs = let h = c .before .before .before .before .before .before .wrong-mark .ensures .1 (c .before .before .before .before .before .if1 .left) in omega arith
 
+word-at-requires-2 : tie.Need-word-at-requires-2
+word-at-requires-2 c κs =
+    let h = c .before .before .before .before .before .before .before .wrong-mark .ensures .1 (c .before .before .before .before .before .before .if1 .left) in
+    omega arith
+
 returns-4 : tie.Need-returns-4
 returns-4 c = search (header-accepts, accepting) depth 10
 
@@ -45,4 +50,5 @@ read-header-spec =
     wrong-length-requires
     returns-3
     word-at-requires
+    word-at-requires-2
     returns-4)

@@ -36,13 +36,16 @@ returns-4 c =
 word-at-requires : tie.Need-word-at-requires
 word-at-requires c κs = search needs
 
+wrong-version-requires : tie.Need-wrong-version-requires
+wrong-version-requires c κs = search needs
+
 returns-5 : tie.Need-returns-5
 returns-5 c =
-    let long = c .before .before .before .before .before .before .before .if1 .left in
-    let f = c .before .before .before .before .before .if2 .left in
-    let s = c .before .before .before .if3 .left in
-    let h = c .before .if4 .left in
-    (rw (le-ltb _ _ long, eq-eqb _ _ f, eq-eqb _ _ s, eq-eqb _ _ h, c .word-at .ensures), λ e. long)
+    let long = c .before .before .before .before .before .before .before .before .if1 .left in
+    let f = c .before .before .before .before .before .before .if2 .left in
+    let s = c .before .before .before .before .if3 .left in
+    let h = c .before .before .if4 .left in
+    (rw (le-ltb _ _ long, eq-eqb _ _ f, eq-eqb _ _ s, eq-eqb _ _ h, c .wrong-version .ensures, c .before .word-at .ensures), λ e. long)
 
 pub wrong-mark-spec : {M : Type 1} → statement M
 wrong-mark-spec =
@@ -56,4 +59,5 @@ wrong-mark-spec =
     shared-slice-read-if4
     returns-4
     word-at-requires
+    wrong-version-requires
     returns-5)

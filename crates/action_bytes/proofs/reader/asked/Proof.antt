@@ -7,7 +7,7 @@ use Rattle.action_bytes.proofs.reader.asked.Statement.{statement}
 use Rattle.action_bytes.proofs.reader.asked.Tie as tie
 
 filed-requires : tie.Need-filed-requires
-filed-requires c κs = (c .if1 .taken, filing-right (c .before .before .args .f) (c .if1 .taken) (c .before .before .pre))
+filed-requires c κs = (c .if1 .taken, filing-right (c .before .before .args .f) (c .if1 .taken) (c .before .before .pre) .0)
 
 returns : tie.Need-returns
 returns c = search needs

@@ -1,4 +1,4 @@
--- The fields are where the format has them, and their bytes are the part: `fields-written`.
+-- The fields are where the format has them, and their bytes are the part with its class: `fields-written`.
 use native.Mathlib.Omega.{arith}
 use borrow.Author.Needs.{needs}
 use Rattle.actions.proofs.Layouts.{fields-written}
@@ -26,14 +26,20 @@ word-at-requires-3 c κs = search needs
 shared-slice-read-t12 : tie.Need-shared-slice-read-t12
 shared-slice-read-t12 c = search needs
 
+class-of-requires : tie.Need-class-of-requires
+class-of-requires c κs = search needs
+
 returns : tie.Need-returns
 returns c =
-    let start = c .before .before .before .before .before .before .before .before in
-    let number = c .before .before .before .before .before .word-at .ensures in
-    let switch = c .before .before .word-at2 .ensures in
-    let mask = c .before .word-at3 .ensures in
-    let bytes = c .shared-slice-known5 .given in
-    (rw (number, switch, mask), rw (number, switch, mask) (fields-written (start .args .part .now) (start .pre) (λ i. let h = bytes i in omega arith)))
+    let start = c .before .before .before .before .before .before .before .before .before in
+    let number = c .before .before .before .before .before .before .word-at .ensures in
+    let switch = c .before .before .before .word-at2 .ensures in
+    let mask = c .before .before .word-at3 .ensures in
+    let class = c .class-of .ensures in
+    let bytes = c .before .shared-slice-known5 .given in (
+      rw (number, switch, mask, class),
+      rw (number, switch, mask, class) (fields-written (start .args .part .now) (start .pre .1) (λ i. let h = bytes i in omega arith)),
+    )
 
 pub fields-spec : {M : Type 1} → statement M
 fields-spec =
@@ -46,4 +52,5 @@ fields-spec =
     word-at-requires-2
     word-at-requires-3
     shared-slice-read-t12
+    class-of-requires
     returns)

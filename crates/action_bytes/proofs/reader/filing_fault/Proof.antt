@@ -1,23 +1,16 @@
--- A case for each kind; any other is unknown.
-use mathlib.Core.Bool.{or-false}
-use borrow.Author.Tests.{eq-eqb, ne-eqb}
+-- The kind's test and that of the class.
 use borrow.Author.Needs.{needs}
-use lib.Dec.{eqb}
-use Rattle.actions.proofs.Layouts.{not-cond}
 use Rattle.action_bytes.proofs.reader.filing_fault.Statement.{statement}
 use Rattle.action_bytes.proofs.reader.filing_fault.Tie as tie
 
-returns : tie.Need-returns
-returns c = rw (eq-eqb _ _ (c .before .if1 .taken), or-false)
+kind-fault-requires : tie.Need-kind-fault-requires
+kind-fault-requires c κs = search needs
 
 either-requires : tie.Need-either-requires
 either-requires c κs = search needs
 
-returns-2 : tie.Need-returns-2
-returns-2 c = rw (ne-eqb _ _ (c .before .before .before .before .before .if1 .left), eq-eqb _ _ (c .before .before .before .if2 .taken), c .either .ensures, or-false)
-
-returns-3 : tie.Need-returns-3
-returns-3 c = rw (ne-eqb _ _ (c .before .before .before .if1 .left), ne-eqb _ _ (c .before .if2 .left)) (not-cond (eqb (c .before .before .before .before .before .args .f .kind) 3))
+returns : tie.Need-returns
+returns c = rw (c .either .ensures, c .before .before .kind-fault .ensures)
 
 pub filing-fault-spec : {M : Type 1} → statement M
-filing-fault-spec = tie.close (tie.spec returns either-requires returns-2 returns-3)
+filing-fault-spec = tie.close (tie.spec kind-fault-requires either-requires returns)

@@ -1,0 +1,2 @@
+-- what a host reads off a header's number
+pub mod Headers
