@@ -52,7 +52,7 @@ Stopped n l i j c = Some (λ x. names n x i j c) l
 abbrev pub stopper : ℕ → List Notice → ℕ → ℕ → ℕ → ℕ
 stopper n l i j c = lowest (λ x. names n x i j c) l
 
--- Which links a book stops, and the lowest number that does: `stops-exactly` (proofs/Entries.antt). `clear-since` (promises/proofs/Clearness.antt)
+-- Which links a book stops, and the lowest number that does: `stops-exactly` (proofs/Entries.antt). `stopped-exactly` (changes/proofs/Since.antt)
 -- says that these are the links that the notices accepted and not withdrawn since name.
 abbrev pub stopsOf : Book → ℕ → ℕ → ℕ → ℕ
 stopsOf b i j c = stopper (b .n) (standing b) i j c
@@ -62,6 +62,7 @@ stopsOf b i j c = stopper (b .n) (standing b) i j c
 abbrev pub counted : ℕ → Book → List Notice
 counted choice b = those (counts choice) (standing b)
 
--- "stopped by a counted notice": which links these stop, and the lowest number that does. `counted-exactly` (proofs/Counted.antt)
+-- "stopped by a counted notice": which links these stop, and the lowest number that does. `counted-exactly` (proofs/Counted.antt). `clear-since`
+-- (promises/proofs/Clearness.antt) says that these are the links that the counted ones among the notices accepted and not withdrawn since name.
 abbrev pub countedStops : ℕ → Book → ℕ → ℕ → ℕ → ℕ
 countedStops choice b i j c = stopper (b .n) (counted choice b) i j c

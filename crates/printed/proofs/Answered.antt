@@ -1,14 +1,15 @@
 -- The line of an action is that of its entry's answer, and a layout fault comes before anything that the entry would answer.
-use mathlib.Core.Path.{_≡_, refl, sym, ap, _∙_}
+use mathlib.Core.Path.{_≡_, refl, sym, ap, subst, _∙_}
 use mathlib.Core.Bool.{true≢false}
-use mathlib.Core.Logic.{_⊎_}
+use mathlib.Core.Logic.{_⊎_, inl, inr}
 use mathlib.Core.List.{List, [], _∷_, _++_}
 use Prim.Native.Nat.{ℕ, _≤_, _<_}
 use native.Mathlib.Omega.{arith}
 use lib.ListN.{length, getD}
 use Rattle.table.specs.declared.Refusal.{Refusal}
-use Rattle.table.specs.Checks.{Given, Given.here, Given.later}
-use Rattle.table.proofs.Checks.{zero-one}
+use Rattle.table.specs.Reply.{refused}
+use Rattle.table.specs.Checks.{Given, Given.here, Given.later, Passed}
+use Rattle.table.proofs.Checks.{zero-one, given-or-passed}
 use Rattle.printed.specs.Words.{ascii, decimalIn, decimal, ending, refusal, FILE, WITHDRAW, ROUTE, ACTION}
 use Rattle.printed.proofs.WordsSpelled.{OneLine, line-feed-last, ten-are-words, decimal-is-a-word}
 use Rattle.printed.specs.Told.{told, foundTold}
@@ -20,7 +21,8 @@ use Rattle.book.proofs.Once.{files-once, withdraws-once}
 use Rattle.notices.specs.declared.Notice.{Notice}
 use Rattle.notices.proofs.Classes.{class-within}
 use Rattle.routes.specs.declared.Found.{Found}
-use Rattle.routes.specs.Routed.{routeChecks, Routes}
+use Rattle.routes.specs.Routed.{routeSays, Routed, routeChecks, Routes}
+use Rattle.book.specs.Standing.{countedStops}
 use Rattle.routes.proofs.Entries.{route-once}
 use Rattle.actions.specs.declared.Action.{Action}
 use Rattle.actions.specs.Format.{InSheets}
@@ -71,13 +73,25 @@ module _ (n : ℕ) (b : Book) (text : List ℕ) where
     (λ l. refused-line (2 ∷ 0 ∷ 7 ∷ 0 ∷ 0 ∷ 0 ∷ 0 ∷ 0 ∷ 0 ∷ 0 ∷ 1 ∷ []) (action-refuses (later refl (here refl refl))) l),
   )
 
-  -- so no line of a route ends in `REFUSED 5`: of what is read from bytes the choice is 0 or 1
-  pub no-five-printed : (part : List ℕ) → length part ≤ 11 → ((i : ℕ) → getD part i 0 < 256) → (s d choice : ℕ) → ReadsAction part (Action.Route s d choice)
+  -- of what is read from bytes the choice is 0 or 1,
+  no-five-given : (part : List ℕ) → length part ≤ 11 → ((i : ℕ) → getD part i 0 < 256) → (s d choice : ℕ) → ReadsAction part (Action.Route s d choice)
       → Given 5 (routeChecks b s d choice) → ⊥
-  no-five-printed part short bytes s d choice reads (here h e) = zero-one (omega arith)
-  no-five-printed part short bytes s d choice reads (later g (here h e)) = zero-one (omega arith)
-  no-five-printed part short bytes s d choice reads (later g (later f (here h e))) =
+  no-five-given part short bytes s d choice reads (here h e) = zero-one (omega arith)
+  no-five-given part short bytes s d choice reads (later g (here h e)) = zero-one (omega arith)
+  no-five-given part short bytes s d choice reads (later g (later f (here h e))) =
       true≢false (sym h ∙ class-within choice .1 (action-in-sheets part (Action.Route s d choice) short bytes tt reads))
+
+  -- so the answer of a route whose line is printed is never 5
+  pub no-five-printed : (part : List ℕ) → length part ≤ 11 → ((i : ℕ) → getD part i 0 < 256) → (s d choice : ℕ) → ReadsAction part (Action.Route s d choice)
+      → (r : Found) → Routes b s d choice r → r ≡ Found.Refused Refusal.Field → ⊥
+  no-five-printed part short bytes s d choice reads r routes e = go (given-or-passed (routeChecks b s d choice))
+    where
+      go : ((k : ℕ) × Given k (routeChecks b s d choice)) ⊎ Passed (routeChecks b s d choice) → ⊥
+      go (inl g) =
+          let f : refused 5 ≡ refused (g .0) = ap routeSays (sym e) ∙ routes .refuses (g .0) (g .1) in
+          let five : _≡_ {A = ℕ} (g .0) 5 = cc in
+          no-five-given part short bytes s d choice reads (subst (λ (k : ℕ). Given k (routeChecks b s d choice)) five (g .1))
+      go (inr p) = subst (Routed (b .n) (countedStops choice b) s d) e (routes .routes p)
 
   -- "LF at each end", and nowhere else in a line
   pub line-ends : (a : Action) → LineOf n b a text → OneLine text

@@ -162,7 +162,17 @@ pub row-holds : (k : ℕ) → Claim (getD examples k (Example.route 3 [] 1 0 (Fo
 unfolding AllHold
 row-holds k = row-of examples examples-hold k (Example.route 3 [] 1 0 (Found.Tag 0)) (examples-hold .0)
 
--- Document 02, §5: a filing of links that are only busy; and what a book after accepted changes answers with choice 0 and with choice 1
+-- Document 02, §5: examples 1, 9 and 6 over broken notices only, which all of theirs are
+pub broken-only-rows :
+    Routes (run [] (opened 3)) 1 0 1 (Found.Tag 0) × Routes (run [] (opened 1)) 0 1 1 (Found.Tag 1) × Routes (run (links 1 1 0 1 ∷ []) (opened 3)) 1 0 1 (Found.Tag 8)
+unfolding routing passing sameFound run lowest some inPlaces insert those misfiled littered ones steered statesOf walked high through lesser advanced mirrored lesserOf answerFrom
+broken-only-rows = (
+  routes-so (run [] (opened 3)) 1 0 1 (Found.Tag 0) refl,
+  routes-so (run [] (opened 1)) 0 1 1 (Found.Tag 1) refl,
+  routes-so (run (links 1 1 0 1 ∷ []) (opened 3)) 1 0 1 (Found.Tag 8) refl,
+)
+
+-- A filing of links that are only busy; and what a book after accepted changes answers with choice 0 and with choice 1
 abbrev busied : ℕ → ℕ → ℕ → ℕ → Change
 busied k stage switch set = Change.file (record { number = k; target = Links stage switch set; class = 1 })
 

@@ -35,11 +35,11 @@ answering answer =
 abbrev idle : Controller Book
 idle = answering Answer.Done
 
-pub some-says-eleven-always : SaysElevenAlways idle
-some-says-eleven-always b s d choice p = (0, 1, refl)
+pub some-says-eleven-always : (choice : ℕ) → SaysElevenAlways idle choice
+some-says-eleven-always choice b s d p = (0, 1, refl)
 
-pub some-gives-tag-zero-always : GivesTagZeroAlways idle
-some-gives-tag-zero-always b s d choice t e = absurd (zero-one cc)
+pub some-gives-tag-zero-always : (choice : ℕ) → GivesTagZeroAlways idle choice
+some-gives-tag-zero-always choice b s d t e = absurd (zero-one cc)
 
 pub some-invents-a-stage : InventsAStage idle
 unfolding run lowest those walked
@@ -58,8 +58,8 @@ some-invents-a-stage =
 pub some-refuses-every-filing : RefusesEveryFiling (answering (Answer.Refused Refusal.Full))
 some-refuses-every-filing b x = (Refusal.Full, refl)
 
-pub some-looks-only-where-it-stands : LooksOnlyWhereItStands idle
-some-looks-only-where-it-stands = record { choose = λ n s d stage switch straight plus minus. 0; chosen = λ b s d choice t i e h. absurd (zero-one cc) }
+pub some-looks-only-where-it-stands : (choice : ℕ) → LooksOnlyWhereItStands idle choice
+some-looks-only-where-it-stands choice = record { choose = λ n s d stage switch straight plus minus. 0; chosen = λ b s d t i e h. absurd (zero-one cc) }
 
 pub some-gives-up : GivesUp idle
 some-gives-up =

@@ -4,7 +4,7 @@ use mathlib.Core.Path.{_≡_, refl, sym, ap, subst, _∙_}
 use mathlib.Core.Bool.{false}
 use mathlib.Core.List.{List, [], _∷_, _++_, append-assoc}
 use mathlib.Core.Logic.{⊎-elim}
-use Prim.Native.Nat.{ℕ, suc}
+use Prim.Native.Nat.{ℕ, zero, suc, _≤_, _<_}
 use native.Mathlib.Omega.{arith}
 use Rattle.table.specs.Numbers.{numberOf}
 use Rattle.table.specs.Reply.{Reply.accepted, refused, answerSays}
@@ -27,7 +27,7 @@ use Rattle.routes.specs.Routed.{Routed, routeChecks, Routes}
 use Rattle.routes.proofs.Entries.{route-once}
 use Rattle.promises.specs.Examples.{links}
 use Rattle.promises.specs.Controllers.{Controller, FilesAsPromised, RoutesAsPromised, SaysElevenAlways, GivesTagZeroAlways, InventsAStage, RefusesEveryFiling, LooksOnlyWhereItStands, GivesUp, Accepts, ownRun, ended, NeverWithdrawn, Holds, Named, IsLink, StopsWhatIsNamed, SameLinks, AcceptsAfter, FilesNothing, StoresTheFirstOnly, OpensForBoth, PlusAndMinusOneLink}
-use Rattle.promises.proofs.Examples.{row-holds}
+use Rattle.promises.proofs.Examples.{row-holds, broken-only-rows}
 
 -- a route that names a stage has passed 16, 10 and 5
 none-routed : (b : Book) (s d choice i k : ℕ) → Routes b s d choice (Found.None i k) → Routed (b .n) (countedStops choice b) s d (Found.None i k)
@@ -36,27 +36,79 @@ none-routed b s d choice i k p = ⊎-elim (λ g. let e = p .refuses (g .0) (g .1
 pub tag-passed : (b : Book) (s d choice t : ℕ) → Routes b s d choice (Found.Tag t) → Passed (routeChecks b s d choice)
 tag-passed b s d choice t p = ⊎-elim (λ g. let e = p .refuses (g .0) (g .1) in absurd (zero-one cc)) (λ w. w) (given-or-passed (routeChecks b s d choice))
 
--- the empty book of example 1
+-- the empty book of example 1, that of example 9, and that of example 6
 abbrev pub empty : Book
 empty = run [] (opened 3)
 
--- by demand 2
-module _ (c : Controller Book) (routes : RoutesAsPromised c) where
+abbrev small : Book
+small = run [] (opened 1)
+
+abbrev turned : Book
+turned = run (links 1 1 0 1 ∷ []) (opened 3)
+
+-- what they answer they answer with each choice, since no notice is busy
+each-choice : (P : ℕ → Type 0) → P 0 → P 1 → (choice : ℕ) → choice ≤ 1 → P choice
+each-choice P all broken zero few = all
+each-choice P all broken (suc zero) few = broken
+each-choice P all broken (suc (suc k)) few = absurd (omega arith)
+
+first-row : (choice : ℕ) → choice ≤ 1 → Routes empty 1 0 choice (Found.Tag 0)
+first-row = each-choice (λ q. Routes empty 1 0 q (Found.Tag 0)) (row-holds 0 .1) (broken-only-rows .0)
+
+small-row : (choice : ℕ) → choice ≤ 1 → Routes small 0 1 choice (Found.Tag 1)
+small-row = each-choice (λ q. Routes small 0 1 q (Found.Tag 1)) (row-holds 8 .1) (broken-only-rows .1)
+
+turned-row : (choice : ℕ) → choice ≤ 1 → Routes turned 1 0 choice (Found.Tag 8)
+turned-row = each-choice (λ q. Routes turned 1 0 q (Found.Tag 8)) (row-holds 5 .1) (broken-only-rows .2)
+
+-- no link of the source is stopped in the two books that differ, whatever is counted
+none-at-source : (choice : ℕ) → choice ≤ 1 → (c : ℕ) → c < 3 → (countedStops choice empty 0 1 c ≡ 0) × (countedStops choice turned 0 1 c ≡ 0)
+unfolding run some those inPlaces insert misfiled littered lowest
+none-at-source zero few zero h = (refl, refl)
+none-at-source zero few (suc zero) h = (refl, refl)
+none-at-source zero few (suc (suc zero)) h = (refl, refl)
+none-at-source zero few (suc (suc (suc c))) h = absurd (omega arith)
+none-at-source (suc zero) few zero h = (refl, refl)
+none-at-source (suc zero) few (suc zero) h = (refl, refl)
+none-at-source (suc zero) few (suc (suc zero)) h = (refl, refl)
+none-at-source (suc zero) few (suc (suc (suc c))) h = absurd (omega arith)
+none-at-source (suc (suc k)) few c h = absurd (omega arith)
+
+-- by demand 2, whichever choice the controller is bad at
+module _ (c : Controller Book) (routes : RoutesAsPromised c) (choice : ℕ) (few : choice ≤ 1) where
   -- "one that says 11 to every route"
-  pub not-eleven-always : SaysElevenAlways c → ⊥
+  pub not-eleven-always : SaysElevenAlways c choice → ⊥
   not-eleven-always says =
-      let right = row-holds 0 .1 in
-      let e = says empty 1 0 0 (tag-passed empty 1 0 0 0 right) in
-      let f : Found.None (e .0) (e .1) ≡ Found.Tag 0 = sym (e .2) ∙ route-once empty 1 0 0 _ _ (routes empty 1 0 0) right in
+      let right = first-row choice few in
+      let e = says empty 1 0 (tag-passed empty 1 0 choice 0 right) in
+      let f : Found.None (e .0) (e .1) ≡ Found.Tag 0 = sym (e .2) ∙ route-once empty 1 0 choice _ _ (routes empty 1 0 choice) right in
       zero-one cc
 
   -- "one that gives tag 0 always"
-  pub not-tag-zero-always : GivesTagZeroAlways c → ⊥
+  pub not-tag-zero-always : GivesTagZeroAlways c choice → ⊥
   not-tag-zero-always gives =
-      let b : Book = run [] (opened 1) in
-      let e : _≡_ {A = ℕ} 1 0 = gives b 0 1 0 1 (route-once b 0 1 0 _ _ (routes b 0 1 0) (row-holds 8 .1)) in
+      let e : _≡_ {A = ℕ} 1 0 = gives small 0 1 1 (route-once small 0 1 choice _ _ (routes small 0 1 choice) (small-row choice few)) in
       omega arith
 
+  -- "Taking the spare link only where the stopped one starts. A stopped straight link needs an earlier turn.": examples 1 and 6 turn
+  -- at switch 1 of stage 0, whose own links are clear in both
+  pub not-looking-only-where-it-stands : LooksOnlyWhereItStands c choice → ⊥
+  unfolding run some those inPlaces insert misfiled littered lowest steered walked
+  not-looking-only-where-it-stands w =
+      let clear : (k : ℕ) → k < 3 → (countedStops choice empty 0 1 k ≡ 0) × (countedStops choice turned 0 1 k ≡ 0) = none-at-source choice few in
+      let minus = w .chosen empty 1 0 0 0 (route-once empty 1 0 choice _ _ (routes empty 1 0 choice) (first-row choice few)) (omega arith) in
+      let plus = w .chosen turned 1 0 8 0 (route-once turned 1 0 choice _ _ (routes turned 1 0 choice) (turned-row choice few)) (omega arith) in
+      let chosen : ℕ → ℕ → ℕ → ℕ = w .choose 3 1 0 0 1 in
+      let one : _≡_ {A = ℕ} 2 (chosen 0 0 0) = minus ∙ at-zero chosen (clear 0 (omega arith) .0) (clear 1 (omega arith) .0) (clear 2 (omega arith) .0) in
+      let two : _≡_ {A = ℕ} 1 (chosen 0 0 0) = plus ∙ at-zero chosen (clear 0 (omega arith) .1) (clear 1 (omega arith) .1) (clear 2 (omega arith) .1) in
+      let z : _≡_ {A = ℕ} 2 1 = one ∙ sym two in
+      omega arith
+    where
+      at-zero : (f : ℕ → ℕ → ℕ → ℕ) {x y z : ℕ} → x ≡ 0 → y ≡ 0 → z ≡ 0 → f x y z ≡ f 0 0 0
+      at-zero f p q r = rw (p, q, r)
+
+-- and these wherever they happen
+module _ (c : Controller Book) (routes : RoutesAsPromised c) where
   -- what it answers where it names a stage is what is promised of paths
   stuck : (b : Book) (s d choice i k : ℕ) → c .route b s d choice ≡ Found.None i k → Routed (b .n) (countedStops choice b) s d (Found.None i k)
   stuck b s d choice i k e = none-routed b s d choice i k (subst (Routes b s d choice) e (routes b s d choice))
@@ -64,17 +116,6 @@ module _ (c : Controller Book) (routes : RoutesAsPromised c) where
   -- "one that names an invented stage"
   pub not-an-invented-stage : InventsAStage c → ⊥
   not-an-invented-stage w = w .invented (stuck (w .book) (w .source) (w .destination) (w .choice) (w .stage) (w .number) (w .answers) .1)
-
-  -- "Taking the spare link only where the stopped one starts. A stopped straight link needs an earlier turn.": examples 1 and 6 turn
-  -- at switch 1 of stage 0, whose own links are clear in both
-  pub not-looking-only-where-it-stands : LooksOnlyWhereItStands c → ⊥
-  unfolding run some those inPlaces insert misfiled littered lowest steered walked
-  not-looking-only-where-it-stands w =
-      let b : Book = run (links 1 1 0 1 ∷ []) (opened 3) in
-      let minus : _≡_ {A = ℕ} 2 (w .choose 3 1 0 0 1 0 0 0) = w .chosen empty 1 0 0 0 0 (route-once empty 1 0 0 _ _ (routes empty 1 0 0) (row-holds 0 .1)) (omega arith) in
-      let plus : _≡_ {A = ℕ} 1 (w .choose 3 1 0 0 1 0 0 0) = w .chosen b 1 0 0 8 0 (route-once b 1 0 0 _ _ (routes b 1 0 0) (row-holds 5 .1)) (omega arith) in
-      let z : _≡_ {A = ℕ} 2 1 = minus ∙ sym plus in
-      omega arith
 
   -- "Answering 'none' after the first failed turn back."
   pub not-giving-up : GivesUp c → ⊥

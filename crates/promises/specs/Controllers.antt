@@ -41,13 +41,13 @@ FilesAsPromised c = (b : Book) (x : Notice) → Files b x (record { book = c .le
 abbrev pub RoutesAsPromised : Controller Book → Type 0
 RoutesAsPromised c = (b : Book) (s d choice : ℕ) → Routes b s d choice (c .route b s d choice)
 
--- "one that says 11 to every route": every one that 16, 10 and 5 let through
-abbrev pub SaysElevenAlways : Controller Book → Type 0
-SaysElevenAlways c = (b : Book) (s d choice : ℕ) → Passed (routeChecks b s d choice) → (i : ℕ) × (k : ℕ) × (c .route b s d choice ≡ Found.None i k)
+-- "one that says 11 to every route": every one of some choice that 16, 10 and 5 let through
+abbrev pub SaysElevenAlways : Controller Book → ℕ → Type 0
+SaysElevenAlways c choice = (b : Book) (s d : ℕ) → Passed (routeChecks b s d choice) → (i : ℕ) × (k : ℕ) × (c .route b s d choice ≡ Found.None i k)
 
--- "one that gives tag 0 always"
-abbrev pub GivesTagZeroAlways : Controller Book → Type 0
-GivesTagZeroAlways c = (b : Book) (s d choice t : ℕ) → c .route b s d choice ≡ Found.Tag t → t ≡ 0
+-- "one that gives tag 0 always", to the routes of some choice
+abbrev pub GivesTagZeroAlways : Controller Book → ℕ → Type 0
+GivesTagZeroAlways c choice = (b : Book) (s d t : ℕ) → c .route b s d choice ≡ Found.Tag t → t ≡ 0
 
 -- "one that names an invented stage": somewhere, one that is not the stage named
 pub record InventsAStage (c : Controller Book) : Type 0 where
@@ -65,13 +65,13 @@ abbrev pub RefusesEveryFiling : Controller Book → Type 0
 RefusesEveryFiling c = (b : Book) (x : Notice) → (why : Refusal) × (c .answers (Change.file x) b ≡ Answer.Refused why)
 
 -- "Taking the spare link only where the stopped one starts.": the link that is taken at a switch follows from the size, source,
--- destination, stage and switch, and from what stops the switch's own three links among the notices that count
+-- destination, stage and switch, and from what stops the switch's own three links among the notices that count: to the routes of some choice
 abbrev switchOf : Book → ℕ → ℕ → ℕ → ℕ
 switchOf b s t i = switchAt (b .n) s (stepsOf (b .n) s t) i
 
-pub record LooksOnlyWhereItStands (c : Controller Book) : Type 0 where
+pub record LooksOnlyWhereItStands (c : Controller Book) (choice : ℕ) : Type 0 where
   pub choose : (n s d stage switch straight plus minus : ℕ) → ℕ
-  pub chosen : (b : Book) (s d choice t i : ℕ) → c .route b s d choice ≡ Found.Tag t → i < b .n
+  pub chosen : (b : Book) (s d t i : ℕ) → c .route b s d choice ≡ Found.Tag t → i < b .n
       → let stops : ℕ → ℕ = countedStops choice b i (switchOf b s t i) in getD (stepsOf (b .n) s t) i 0 ≡ choose (b .n) s d i (switchOf b s t i) (stops 0) (stops 1) (stops 2)
 
 -- "Answering "none" after the first failed turn back.": somewhere, although a path is clear

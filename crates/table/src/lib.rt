@@ -8,7 +8,7 @@ ghost use Rattle.table.specs.Numbers.{numberOf};
 pub enum Refusal {
     // n outside 1 to 12
     Size,
-    // unknown action or kind, or a spare field not zero
+    // unknown action or kind, a spare field not zero, a class above 1 or of a withdrawal
     Layout,
     // notice number 0
     Zero,
