@@ -140,8 +140,8 @@ uint64_t tabashfar_listing(const uint8_t *sheet, size_t sheet_len, uint8_t *memo
 /* Routes and walks. */
 
 /* Refuses 10, 5 where the choice is above 1, and 11 with the stage that no clear walk can cross and a notice: the lowest number that stops any
- * way onward toward the destination from a switch that a clear walk reaches at that stage. Value: the tag of the first clear path. Clear is what
- * no notice stops that counts by the choice, and such a one is named. */
+ * way onward toward the destination from a switch that a clear walk reaches at that stage. Value: the tag of the first clear path. A
+ * link is clear where no notice that counts by the choice stops it, and the notice named is one that counts. */
 uint64_t tabashfar_route(const uint8_t *sheet, size_t sheet_len, uint16_t source, uint16_t destination, uint8_t choice);
 
 /* Routes for many pairs over one book, which is made once, with one choice for all. A pair is two numbers of `pairs`, a source and its
@@ -168,7 +168,7 @@ uint64_t tabashfar_has_action(const uint8_t *sheet, size_t sheet_len, size_t k);
  * there and 0 where it is not; the bits from 8 on are where in the sheet it starts. */
 uint64_t tabashfar_action_part(const uint8_t *sheet, size_t sheet_len, size_t k);
 
-/* Refuses 13 where the part has neither ten bytes nor eleven, whose last is the class, then 2, also where the class is above 1 or not zero on a
+/* Refuses 13 where the part has neither ten bytes nor eleven (the eleventh is the class), then 2, also where the class is above 1 or not zero on a
  * withdrawal. Value: 1 files, 2 withdraws, 3 routes. */
 uint64_t tabashfar_read_action(const uint8_t *part, size_t part_len);
 
