@@ -8,8 +8,8 @@ use native.Mathlib.Decide.{decLe}
 use native.Mathlib.Omega.{arith}
 use borrow.Author.Tests.{le-ltb, lt-ltb}
 use lib.Dec.{eqb}
-use lib.ListN.{length, take}
-use lib.Seq.{length-take-le, getD-take, take-all}
+use lib.ListN.{length, take, length-append}
+use lib.Seq.{length-take-le, getD-take, take-all, take-append-seam}
 use Rattle.table.specs.Reply.{refused}
 use Rattle.table.specs.Checks.{checked, _when_, _below_, Passed.none, Passed.passes}
 use Rattle.table.proofs.Checks.{passed-nth, neither-of, one-of, other-of, unequal, equal}
@@ -55,6 +55,10 @@ longest-is-accepted n actions some few e =
 pub text-fits : {sheet : List ℕ} (h : Header) → ReadsHeader sheet h → room h ≤ textRoom
 text-fits h reads = let e = room-within h reads in omega arith
 
+-- and the longest sheet asks for all of it
+pub text-is-asked : (n : ℕ) → room (Header.Sheet n 4096 2) ≡ textRoom
+text-is-asked n = refl
+
 -- what is longer than the longest sheet has a wrong length, whatever count stands in it
 length-is-wrong : (sheet : List ℕ) → longestSheet < length sheet → wrongLength sheet ≡ true
 length-is-wrong sheet long = go (decLe (countIn sheet) 4096)
@@ -90,6 +94,14 @@ front-answers input m h room reads = go (decLe (length input) m)
         let size : sizeIn (take m input) ≡ sizeIn input = getD-take m input 5 0 (omega arith) in
         let wrong = length-is-wrong (take m input) (omega arith) in
         record { says = reads .says ∙ rw (wrong, length-is-wrong input (omega arith), mark, size) }
+
+-- a byte less would not do: the front of a longest sheet and a byte is then that sheet, which is accepted, and all of it is refused
+pub a-byte-less-misleads : (m byte : ℕ) (sheet : List ℕ) {n count version : ℕ} → m + 1 ≡ inputRoom → length sheet ≡ longestSheet → ReadsHeader sheet (Header.Sheet n count version)
+    → ReadsHeader (take m (sheet ++ (byte ∷ []))) (Header.Sheet n count version) × (ReadsHeader (sheet ++ (byte ∷ [])) (Header.Sheet n count version) → ⊥)
+a-byte-less-misleads m byte sheet least long reads =
+    let same : m ≡ length sheet = omega arith in
+    let all = length-append sheet (byte ∷ []) in
+    (rw (same, take-append-seam sheet (byte ∷ [])) reads, λ taken. let short = none-is-longer taken in omega arith)
 
 -- the front of an input that the header accepts is all of it
 pub front-is-all : (input : List ℕ) (m : ℕ) {n count version : ℕ} → inputRoom ≤ m → ReadsHeader (take m input) (Header.Sheet n count version) → take m input ≡ input

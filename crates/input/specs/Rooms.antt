@@ -8,10 +8,10 @@ use Rattle.printed.specs.Runs.{room}
 abbrev pub longestSheet : ℕ
 longestSheet = bytesBefore (actionLength 2) 4096
 
--- the longest sheet and one byte more: `front-answers` says that the front of a longer input then answers as all of it does
+-- the longest sheet and one byte more: `front-answers` says that the front of a longer input then answers as all of it does, `a-byte-less-misleads` that no byte is too many
 abbrev pub inputRoom : ℕ
 inputRoom = longestSheet + 1
 
--- what running the longest sheet asks for: `text-fits` says that no run asks for more
+-- what running the longest sheet asks for (`text-is-asked`): `text-fits` says that no run asks for more
 abbrev pub textRoom : ℕ
 textRoom = room (Header.Sheet 12 4096 2)

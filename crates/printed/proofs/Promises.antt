@@ -53,6 +53,10 @@ room-within {sheet} (Header.Sheet n count version) q =
     omega arith
 room-within {sheet} (Header.Refused why) q = omega arith
 
+-- and 4,096 actions ask for all of it
+pub most-is-asked : (n version : ℕ) → room (Header.Sheet n 4096 version) ≡ mostRoom
+most-is-asked n version = refl
+
 -- where bytes were printed they are a text's, at the front of the memory and within the room
 module _ {sheet before after : List ℕ} {r : Ran} {bytes : ℕ} (w : Runs sheet before r after) (e : r ≡ Ran.Printed bytes) where
   text-printed : (text : List ℕ) × (bytes ≡ length text) × (after ≡ text ++ drop (length text) before) × (length text ≤ room (w .header))

@@ -37,7 +37,7 @@ abbrev pub room : Header → ℕ
 room (Header.Sheet n count version) = firstLineRoom + actionRoom * count
 room (Header.Refused why) = firstLineRoom
 
--- "action count above 4,096" is refused, so no run asks for more than this: `room-within`
+-- "action count above 4,096" is refused, so no run asks for more than this, and some for all of it: `room-within`, `most-is-asked`
 abbrev pub mostRoom : ℕ
 mostRoom = firstLineRoom + actionRoom * 4096
 
