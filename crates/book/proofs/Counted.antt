@@ -10,15 +10,20 @@ use Rattle.notices.specs.declared.Notice.{Notice}
 use Rattle.notices.specs.Notices.{unfit}
 use Rattle.notices.specs.Classes.{counts}
 use Rattle.notices.proofs.Classes.{all-counted, broken-counted, broken-always}
+use Rattle.notices.proofs.Fit.{fit-class}
 use Rattle.standing.specs.Picked.{LowestNumber, those}
 use Rattle.standing.specs.Rising.{Filed}
 use Rattle.standing.proofs.Picked.{those-exactly, those-all, those-length}
-use Rattle.standing.proofs.Members.{those-filed}
+use Rattle.standing.proofs.Members.{none-bad, those-filed}
 use Rattle.standing.proofs.Lowest.{lowest-number-as}
 use Rattle.book.specs.declared.Book.{Book}
 use Rattle.book.specs.Standing.{standing, bookOf, Sound, StopsLink, stopper, stopsOf, counted, countedStops}
 use Rattle.book.proofs.Filings.{standing-of, unused-of}
 use Rattle.book.proofs.Stoppers.{stopper-exactly}
+
+-- a notice that stands is broken or busy
+pub class-held : (b : Book) → Sound b → (x : Notice) → List·Memᴰ x (standing b) → x .class ≤ 1
+class-held b sound x stands = fit-class (b .n) x (none-bad (unfit (b .n)) 0 (standing b) x (sound .filed) stands)
 
 module _ (b : Book) where
   -- "class 0 there means all notices count"

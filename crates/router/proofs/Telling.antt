@@ -1,14 +1,15 @@
 -- Through a list of notices, one after the other: what is stopped at its end is what the book stops.
-use mathlib.Core.Path.{_≡_, refl, sym, ap, _∙_}
+use mathlib.Core.Path.{_≡_, refl, sym, ap, subst, _∙_}
 use mathlib.Core.Bool.{Bool, true, false, cond, _||_}
 use mathlib.Core.List.{List, [], _∷_}
 use mathlib.Core.Logic.{_⊎_, inl, inr, ⊎-elim}
-use Prim.Native.Nat.{ℕ, zero, suc, _+_, _*_, _/_, _%_, _^_, _<_}
+use Prim.Native.Nat.{ℕ, zero, suc, _+_, _*_, _/_, _%_, _^_, _≤_, _<_}
 use native.Mathlib.Numerals.{add-one}
 use native.Mathlib.Omega.{arith}
 use lib.Dec.{eqb}
-use lib.ListN.{getD}
+use lib.ListN.{length, getD}
 use lib.Pow.{pow-pos, high as high-part}
+use lib.Seq.{length-take-le, getD-take}
 use Rattle.fabric.specs.Labels.{size}
 use Rattle.fabric.specs.Links.{lands}
 use Rattle.fabric.proofs.Links.{lands-lt}
@@ -22,9 +23,12 @@ use Rattle.notices.specs.declared.Notice.{Notice}
 use Rattle.notices.specs.Notices.{names, unfit}
 use Rattle.notices.specs.Classes.{counts}
 use Rattle.standing.specs.Picked.{some, those}
-use Rattle.standing.specs.Rising.{Filed}
+use Rattle.standing.specs.Rising.{Filed, filler}
+use Rattle.standing.proofs.Distinct.{at-place}
 use Rattle.standing.proofs.Lowest.{lowest-tells}
-use Rattle.book.specs.Standing.{stopper}
+use Rattle.book.specs.declared.Book.{Book}
+use Rattle.book.specs.Standing.{standing, Sound, stopper}
+use Rattle.book.proofs.Counted.{class-held}
 use Rattle.named_links.specs.Named.{outOf, Ways, WithTarget}
 use Rattle.router.specs.Told.{named, Told}
 
@@ -32,6 +36,13 @@ use Rattle.router.specs.Told.{named, Told}
 pub head-fit : (n k : ℕ) (x : Notice) (xs : List Notice) → Filed (unfit n) k (x ∷ xs) → unfit n x ≡ false
 unfolding Filed
 head-fit n k x xs filed = filed .1
+
+-- a notice in use is broken or busy
+pub class-at : (b : Book) → Sound b → (k : ℕ) → b .count ≤ length (b .notices) → k < b .count → getD (b .notices) k filler .class ≤ 1
+class-at b sound k places inside =
+    let long : length (standing b) ≡ b .count = length-take-le (b .count) (b .notices) places in
+    let same : getD (standing b) k filler ≡ getD (b .notices) k filler = getD-take (b .count) (b .notices) k filler inside in
+    subst (λ (x : Notice). x .class ≤ 1) same (class-held b sound (getD (standing b) k filler) (at-place filler (standing b) k (omega arith)))
 
 -- what a list in order names is what it stops
 pub named-stops : (n k : ℕ) (l : List Notice) (i j c : ℕ) → Filed (unfit n) k l → stopping (stopper n l i j c) ≡ named n l i j c

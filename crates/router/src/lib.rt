@@ -8,7 +8,7 @@ use named_links::with_notice;
 use routes::Found;
 use table::Refusal;
 ghost use mathlib.Core.Path.{_≡_};
-ghost use Prim.Native.Nat.{_<_};
+ghost use Prim.Native.Nat.{_≤_, _<_};
 ghost use Rattle.standing.specs.Picked.{lowest};
 ghost use Rattle.book.specs.Standing.{standing, Sound};
 ghost use Rattle.routes.specs.Routed.{Routes};
@@ -72,7 +72,7 @@ fn lowest_stopping(
     stage: u8,
     ways: u8,
 ) -> u16
-    requires { ⌜ (Sound book) × (stage < book .n) × Ways (book .n) (now straights) (now forks) ⌝ }
+    requires { ⌜ (Sound book) × (choice ≤ 1) × (stage < book .n) × Ways (book .n) (now straights) (now forks) ⌝ }
     ensures { λ r. ⌜ r ≡ lowest (countedStopsOneOf choice (book .n) (now (straights .entry)) (now (forks .entry)) stage ways) (standing book) ⌝ }
 {
     let n = book.n;

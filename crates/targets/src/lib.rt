@@ -129,11 +129,12 @@ pub fn bad_field(n: u8, x: Notice) -> bool
     table::either(bad_target(n, x), bad_class(x.class))
 }
 
-// Whether a route of this choice counts the notice.
+// Whether a route of this choice counts the notice. Choice and class are 0 or 1, and it does where one of them is 0.
 pub fn counts(choice: u8, x: Notice) -> bool
+    requires { ⌜ (choice ≤ 1) × (x .class ≤ 1) ⌝ }
     ensures { λ r. ⌜ r ≡ counts choice x ⌝ }
 {
-    table::either(choice == 0, x.class == 0)
+    choice & x.class == 0
 }
 
 // 6

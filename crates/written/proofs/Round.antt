@@ -15,10 +15,9 @@ use Rattle.fabric.specs.Labels.{outsideSizes}
 use Rattle.notices.specs.declared.Notice.{Notice}
 use Rattle.notices.specs.Notices.{unfit}
 use Rattle.notices.specs.Classes.{busy}
-use Rattle.notices.proofs.Fit.{fit-class}
 use Rattle.standing.specs.Picked.{some}
 use Rattle.standing.specs.Rising.{filler}
-use Rattle.standing.proofs.Members.{filed-exactly, filed-distinct, none-bad}
+use Rattle.standing.proofs.Members.{filed-exactly, filed-distinct}
 use Rattle.standing.proofs.Distinct.{at-place}
 use Rattle.actions.specs.declared.Action.{Action}
 use Rattle.actions.specs.Layout.{actionLength, bytesBefore, filing}
@@ -38,6 +37,7 @@ use Rattle.sheet.proofs.Sheets.{header-read, header-once}
 use Rattle.book.specs.declared.Book.{Book}
 use Rattle.book.specs.Standing.{standing, unsound, Sound}
 use Rattle.book.specs.Entries.{opened}
+use Rattle.book.proofs.Counted.{class-held}
 use Rattle.book.proofs.Filings.{sound-if}
 use Rattle.changes.specs.Runs.{Change, run, AllAccepted}
 use Rattle.changes.specs.After.{Changes, Changes.none, Changes.more, After}
@@ -110,12 +110,12 @@ module _ (b : Book) (places : length (b .notices) ≡ 48) (ok : unsound b ≡ fa
       ∙ ap (take (eachFor (standing b))) (drop-append-add (headerBytes (versionFor (standing b)) (b .n) many) (rows (eachFor (standing b)) (standing b)) (eachFor (standing b) * k))
       ∙ row-at (eachFor (standing b)) (each-within (standing b)) (standing b) filler k h
 
-  -- a notice that stands is broken or busy, and broken where no busy one stands
+  -- the notice in a place stands, and is broken or busy
   in-place : (k : ℕ) → k < many → List·Memᴰ (getD (standing b) k filler) (standing b)
   in-place k h = at-place filler (standing b) k h
 
-  class-held : (k : ℕ) → k < many → getD (standing b) k filler .class ≤ 1
-  class-held k h = fit-class (b .n) (getD (standing b) k filler) (none-bad (unfit (b .n)) 0 (standing b) (getD (standing b) k filler) (sound .filed) (in-place k h))
+  class-in-place : (k : ℕ) → k < many → getD (standing b) k filler .class ≤ 1
+  class-in-place k h = class-held b sound (getD (standing b) k filler) (in-place k h)
 
   -- the part is the filing's eleven bytes, or its ten with class zero
   spelled-in-sheet : (k : ℕ) → k < many → Spells (partOf (sheetOf b) k) (Action.File (getD (standing b) k filler))
@@ -125,7 +125,7 @@ module _ (b : Book) (places : length (b .notices) ≡ 48) (ok : unsound b ≡ fa
           → Spells (partOf (sheetOf b) k) (Action.File (getD (standing b) k filler))
       go (inl w) =
           let part : partOf (sheetOf b) k ≡ take 10 (filing (getD (standing b) k filler)) = part-of-sheet k h ∙ ap (λ (v : ℕ). take (actionLength v) (filing (getD (standing b) k filler))) (w .0) in
-          let low = class-held k h in
+          let low = class-in-place k h in
           let other = version-1-exactly (standing b) .0 (w .0) (getD (standing b) k filler) (in-place k h) in
           let zero-class : getD (standing b) k filler .class ≡ 0 = broken-then (getD (standing b) k filler .class) low other in
           inr (class-last (getD (standing b) k filler .number) (getD (standing b) k filler .target) (getD (standing b) k filler .class) ∙ ap₂ (λ (p : List ℕ) (c : ℕ). p ++ c ∷ []) (sym part) zero-class)
@@ -134,7 +134,7 @@ module _ (b : Book) (places : length (b .notices) ≡ 48) (ok : unsound b ≡ fa
           inl (sym (part ∙ whole-row (getD (standing b) k filler)))
 
   pub filing-of-sheet : (k : ℕ) → k < many → ReadsAction (partOf (sheetOf b) k) (Action.File (getD (standing b) k filler))
-  filing-of-sheet k h = action-exactly (partOf (sheetOf b) k) (Action.File (getD (standing b) k filler)) (class-held k h) .1 (spelled-in-sheet k h)
+  filing-of-sheet k h = action-exactly (partOf (sheetOf b) k) (Action.File (getD (standing b) k filler)) (class-in-place k h) .1 (spelled-in-sheet k h)
 
   pub filing-no-other : (k : ℕ) → k < many → (a : Action) → ReadsAction (partOf (sheetOf b) k) a → a ≡ Action.File (getD (standing b) k filler)
   filing-no-other k h a r = action-once (partOf (sheetOf b) k) a (Action.File (getD (standing b) k filler)) r (filing-of-sheet k h)

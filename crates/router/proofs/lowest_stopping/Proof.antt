@@ -14,6 +14,7 @@ use Rattle.book.specs.declared.Book.{Book}
 use Rattle.book.specs.Standing.{standing}
 use Rattle.router.specs.Told.{countedStopsOneOf}
 use Rattle.router.proofs.Naming.{shared-stops}
+use Rattle.router.proofs.Telling.{class-at}
 use Rattle.router.proofs.lowest_stopping.Statement.{statement}
 use Rattle.router.proofs.lowest_stopping.Tie as tie
 
@@ -63,13 +64,17 @@ element-copy-out-x c = search needs
 named-at-requires : tie.Need-named-at-requires Inv-loop μ-loop
 named-at-requires c κs =
     let s = c .before .before .before .before .before in
-    (s .pre .0 .few, s .pre .1, s .pre .2 .label (s .args .stage) (s .pre .1))
+    (s .pre .0 .few, s .pre .2, s .pre .3 .label (s .args .stage) (s .pre .2))
 
 in-common-requires : tie.Need-in-common-requires Inv-loop μ-loop
 in-common-requires c κs = search needs
 
 counts-requires : tie.Need-counts-requires Inv-loop μ-loop
-counts-requires c κs = search needs
+counts-requires c κs =
+    let s = c .before .before .before .before .before .before .before in
+    let v = c .before .before .before .before .loop in
+    let few = s .pre .1 in
+    (omega arith, class-at (s .args .t1) (s .pre .0) (v .place) (v .inv .places) (c .before .before .before .loop-test .taken))
 
 both-requires : tie.Need-both-requires Inv-loop μ-loop
 both-requires c κs = search needs

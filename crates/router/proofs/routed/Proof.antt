@@ -15,6 +15,7 @@ use Rattle.frontier.specs.Columns.{ColumnsOf}
 use Rattle.frontier.specs.Stops.{StopsUnder}
 use Rattle.notices.specs.declared.Notice.{Notice}
 use Rattle.notices.specs.Classes.{badClass, counts}
+use Rattle.notices.proofs.Classes.{class-within}
 use Rattle.standing.specs.Picked.{those}
 use Rattle.standing.specs.Rising.{filler}
 use Rattle.standing.proofs.Picked.{lowest-those}
@@ -28,7 +29,7 @@ use Rattle.crossing.specs.Crossed.{CrossedBy}
 use Rattle.router.specs.Told.{Told}
 use Rattle.router.proofs.Naming.{number-named}
 use Rattle.router.proofs.Passing.{refused-label, refused-choice, found-route}
-use Rattle.router.proofs.Telling.{head-fit, ways-of, told-none, told-more, told-all, counted-first, uncounted-first, none-counted}
+use Rattle.router.proofs.Telling.{class-at, head-fit, ways-of, told-none, told-more, told-all, counted-first, uncounted-first, none-counted}
 use Rattle.router.proofs.routed.Statement.{statement}
 use Rattle.router.proofs.routed.Tie as tie
 
@@ -141,7 +142,11 @@ add-k : tie.Need-add-k Inv-loop μ-loop
 add-k c = search needs
 
 counts-requires : tie.Need-counts-requires Inv-loop μ-loop
-counts-requires c κs = search needs
+counts-requires c κs =
+    let s = c .before .before .before .before .before .before .before .before .before .before .before .before .before in
+    let v = c .before .before .loop in
+    let few = class-within (s .args .choice) .0 (v .inv .right-choice) in
+    (omega arith, class-at (s .args .t1) (s .pre) (v .k) (v .inv .places) (c .before .loop-test .taken))
 
 with-notice-requires : tie.Need-with-notice-requires Inv-loop μ-loop
 with-notice-requires c κs =
@@ -210,7 +215,7 @@ lowest-stopping-requires c κs =
     let v = c .before .before .before .before .before .before .before .loop in
     let of = c .before .before .before .before .before .before .before .before .before .before .before .columns-between in
     let stuck = found-by b (s .args .source) (s .args .destination) (s .args .choice) _ (v .k) (v .stops) (s .pre) (of .ensures) (v .inv) (omega arith) (c .before .before .before .before .before .cross .ensures) (c .before .before .before .crossed2 .given .1) in
-    (s .pre, stuck .inside, ways-of (b .n) (s .args .source) (s .args .destination) (v .inv .source-label) _ (of .ensures))
+    (s .pre, class-within (s .args .choice) .0 (v .inv .right-choice), stuck .inside, ways-of (b .n) (s .args .source) (s .args .destination) (v .inv .source-label) _ (of .ensures))
 
 returns-4 : tie.Need-returns-4 Inv-loop μ-loop
 returns-4 c =
