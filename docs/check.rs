@@ -1,6 +1,6 @@
 //! Holds docs/PROMISES.md to the repository: every name that a row cites stands in a file that the row cites, every file and every
-//! must-fail edit that it cites is there, every edit of the repository is cited, and every definition that a reader has to believe has a row.
-//! How the page is read is said at the page's top. Run at the repository's root.
+//! must-fail edit that it cites is there, every edit of the repository is cited and changes a text that stands once in its file, and
+//! every definition that a reader has to believe has a row. How the page is read is said at the page's top. Run at the repository's root.
 
 use std::collections::{BTreeMap, BTreeSet};
 use std::fs;
@@ -35,6 +35,9 @@ fn main() {
     }
     check_prose(&page, &mut faults);
     check_all_cited(&cited, &mut faults);
+    for edit in cited.iter().filter(|edit| fs::metadata(edit).is_ok()) {
+        check_old_texts(edit, &mut faults);
+    }
     check_all_believed(&page, &rows, &mut faults);
     for fault in &faults {
         eprintln!("{fault}");
@@ -184,6 +187,26 @@ fn check_all_cited(cited: &BTreeSet<String>, faults: &mut Vec<String>) {
             let path = format!("crates/{krate}/must-fail/{edit}");
             if !cited.contains(&path) {
                 faults.push(format!("{PAGE}: no row cites {path}"));
+            }
+        }
+    }
+}
+
+/// Every old text of an edit stands once in its file, as the edit's lines before it have left that. The gate sees it too, in its second half.
+fn check_old_texts(edit: &str, faults: &mut Vec<String>) {
+    let krate = edit.split("/must-fail/").next().unwrap_or(edit);
+    let (mut file, mut old) = (String::new(), String::new());
+    let mut texts: BTreeMap<String, String> = BTreeMap::new();
+    for line in read(edit).lines() {
+        if let Some(path) = line.strip_prefix("file: ") {
+            file = format!("{krate}/{path}");
+        } else if let Some(text) = line.strip_prefix("old: ") {
+            old = text.to_string();
+        } else if let Some(new) = line.strip_prefix("new: ") {
+            let text = texts.entry(file.clone()).or_insert_with(|| read(&file));
+            match text.matches(&old).count() {
+                1 => *text = text.replace(&old, new),
+                k => faults.push(format!("{edit}: '{old}' stands {k} times in {file}")),
             }
         }
     }
