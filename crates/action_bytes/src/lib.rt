@@ -1,4 +1,6 @@
 // Document 01, 'The sheet and what is printed', and document 02, §5: the bytes of an action, read and written.
+#![tactic(auto)]
+
 mod filings; // filings.rt: a notice as eleven bytes
 mod reader; // reader.rt: from ten bytes or eleven to the action
 

@@ -1,5 +1,7 @@
 // Document 01, 'The sheet and what is printed', and document 02, §5: an action, and the fields of its bytes. Its layout is defined in specs/; there is no
 // code here.
+#![tactic(auto)]
+
 use notices::Notice;
 use table::Refusal;
 
@@ -26,7 +28,7 @@ pub enum Action {
 }
 
 // The fields of an action's bytes, in their order, whatever they hold.
-#[derive(Drop)]
+#[derive(Clone, Copy)]
 pub struct Fields {
     pub action: u8,
     pub number: u16,

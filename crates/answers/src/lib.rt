@@ -1,4 +1,6 @@
 // Document 01, 'The sheet and what is printed', and document 02, §2: what an answer prints at the end of its line, written at a place of lent memory.
+#![tactic(auto)]
+
 ghost use Rattle.std.specs.Prelude.{◌+◌, ◌≤◌, length};
 ghost use Rattle.printed.specs.Words.{ending};
 ghost use Rattle.printed.specs.Told.{told, none_told, found_told};

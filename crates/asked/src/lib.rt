@@ -1,4 +1,6 @@
 // Document 01, 'Numbers handed back', and document 02, §2, §4 and §5: what a book is asked: link stopped or not, and listing.
+#![tactic(auto)]
+
 mod pass; // pass.rt: the link test in one pass over the notices
 mod three; // three.rt: the three links of a switch in one pass
 

@@ -1,6 +1,8 @@
 // For bench/ alone: many questions about links in one call, each in two forms: the link test, in one pass (0) and as it was before document 02, §4 (1); and
 // what stops the three links of a switch, together (2) and one after the other (3). The promises here are about memory; what the answers mean is said by
 // `Tests` and `stopper`.
+#![tactic(auto)]
+
 ghost use Rattle.std.specs.Prelude.{◌≡◌, false, ◌<◌, length};
 ghost use Rattle.fabric.specs.Labels.{size};
 ghost use Rattle.book.specs.Standing.{Sound};

@@ -1,5 +1,7 @@
 // For bench/ alone: the router asked many pairs in one call, as `tabashfar_routes` takes them, so that a program in Rust can link it and measure
 // it. The promises here are about memory; what the answers mean is said by `Routes` in the router.
+#![tactic(auto)]
+
 ghost use Rattle.std.specs.Prelude.{◌≡◌, false, ◌/◌, length};
 
 use book::Book;

@@ -1,4 +1,6 @@
 // Document 01, 'Notices': the book of notices, and the entries that hand it back: open, file, withdraw.
+#![tactic(auto)]
+
 ghost use Rattle.std.specs.Prelude.{◌≡◌, false};
 ghost use Rattle.book.specs.Standing.{unsound, Sound};
 ghost use Rattle.book.specs.Entries.{Opens, Files, Withdraws};
@@ -8,7 +10,7 @@ use table::{Answer, Refusal};
 
 // The first `count` notices stand, by rising number; every place after them holds number 0, class 0 and the first target,
 // all zero.
-#[derive(Drop)]
+#[derive(Clone, Copy)]
 pub struct Book {
     pub n: u8,
     pub count: usize,

@@ -1,4 +1,6 @@
 // Making the book that a host hands over as a sheet: the one after all its actions.
+#![tactic(auto)]
+
 ghost use Rattle.std.specs.Prelude.{◌≡◌, ◌≤◌};
 ghost use Rattle.book.specs.Standing.{Sound};
 ghost use Rattle.changes.specs.Runs.{run};

@@ -1,5 +1,7 @@
 // Runs the book's entries on document 01's example 13, on a full book, on every refusal that they give, and on damaged books,
 // and writes a line for each call.
+#![tactic(auto)]
+
 use book::{Book, Kept};
 use notices::{Notice, Target};
 use questions::{Link, Listing};

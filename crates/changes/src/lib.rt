@@ -1,1 +1,2 @@
 // Document 01, 'What the user demands': runs of filings and withdrawals. There is no code here.
+#![tactic(auto)]

@@ -1,5 +1,7 @@
 // Document 01, 'Tags and steps': crossing the fabric from a source toward a destination, over whatever stops the links there. Every
 // router finds what is stopped in its own way and then crosses; where there is no path it looks, in its own way again, for who stops the ways onward.
+#![tactic(auto)]
+
 ghost use Rattle.std.specs.Prelude.{◌≤◌, ◌<◌};
 ghost use Rattle.fabric.specs.Labels.{size};
 ghost use Rattle.paths.specs.Clear.{Rule};

@@ -1,4 +1,6 @@
 // Document 01, 16: whether the places of an array are such as accepted changes leave.
+#![tactic(auto)]
+
 ghost use Rattle.std.specs.Prelude.{◌≡◌, ◌||◌, ◌≤◌, take, drop};
 ghost use Rattle.table.specs.Checks.{◌below◌};
 ghost use Rattle.fabric.specs.Labels.{outside_sizes};

@@ -1,5 +1,7 @@
 // Document 01, 'The sheet and what is printed': the program that the desk runs. It reads a sheet on standard input, runs it,
 // and writes the lines on standard output.
+#![tactic(auto)]
+
 ghost use Rattle.std.specs.Prelude.{◌≡◌};
 ghost use Rattle.input.specs.declared.Output.{Output};
 ghost use Rattle.input.specs.Answers.{WritesText, Promised, text_printed};

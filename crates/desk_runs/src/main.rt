@@ -1,5 +1,7 @@
 // Runs many sheets and writes what each prints, with an empty line after it. The sheets lie one after the other on standard
 // input, each after its length in two bytes; sheets.txt says what they are. Then a sheet is run into memory that is too short.
+#![tactic(auto)]
+
 ghost use Rattle.std.specs.Prelude.{◌+◌, ◌≤◌, ◌<◌, length};
 
 use libc::STDIN_FILENO;

@@ -1,4 +1,6 @@
 // Document 01, 'Fabric': the size of a fabric, its labels, and where a link lands.
+#![tactic(auto)]
+
 ghost use Rattle.std.specs.Prelude.{◌≡◌, ℕ, ◌+◌, ◌-◌, ◌*◌, ◌/◌, ◌%◌, ◌^◌, ◌<◌, ◌≤◌, true, false};
 ghost use Rattle.table.specs.Checks.{◌not_below◌};
 ghost use Rattle.fabric.specs.Labels.{size, bit, outside_sizes};

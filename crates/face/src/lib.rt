@@ -1,5 +1,7 @@
 // Document 01's entries, with document 02's §1 to §5, for C and Rust: numbers and byte slices alone. include/tabashfar.h says how a host calls them. An answer is one
 // number (`packed`): its low byte is the table's number, 0 where the call was accepted, and the bits from 8 on hold the value.
+#![tactic(auto)]
+
 ghost use Rattle.table.specs.Reply.{answer_says};
 ghost use Rattle.std.specs.Prelude.{◌≡◌, ◌+◌, ◌*◌, length};
 ghost use Rattle.tags.specs.Entries.{tag_says, TagToSteps, StepsToTag, NormalForm};

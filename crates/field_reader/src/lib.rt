@@ -1,4 +1,6 @@
 // The action reader for C and Rust: which action a part holds, and its eight fields written into lent memory.
+#![tactic(auto)]
+
 ghost use Rattle.std.specs.Prelude.{◌≡◌, ◌≤◌, ◌++◌, length, drop};
 ghost use Rattle.packing.specs.Packed.{packed};
 ghost use Rattle.actions.specs.Format.{fields_of};

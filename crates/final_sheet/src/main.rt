@@ -1,4 +1,6 @@
 // Document 02, §1, for the desk: the program that reads a sheet on standard input and writes the sheet of its final book on standard output.
+#![tactic(auto)]
+
 ghost use Rattle.std.specs.Prelude.{◌≡◌, ◌++◌, ◌≤◌, length, drop};
 ghost use Rattle.book.specs.Standing.{Sound};
 ghost use Rattle.written.specs.Sheets.{sheet_of, most_written};

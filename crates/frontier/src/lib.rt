@@ -1,4 +1,6 @@
 // The frontier of clear walks toward a destination, carried forward stage by stage: at most two switches in each column.
+#![tactic(auto)]
+
 ghost use Rattle.std.specs.Prelude.{◌≡◌, ◌+◌, ◌*◌, ◌<◌, ◌≤◌, true, false, if◌then◌else◌};
 ghost use Rattle.fabric.specs.Labels.{size};
 ghost use Rattle.frontier.specs.Stops.{links_of};
@@ -14,7 +16,7 @@ pub use ways::{columns_between, distance};
 // The two switches of a column: the high one, and the low one 2^i below it. Of each is held the first clear walk that reaches
 // it, as the states of its steps in one number, that of stage 0 highest: of two walks the lesser comes first. N or more is
 // no walk.
-#[derive(Drop)]
+#[derive(Clone, Copy)]
 pub struct Front {
     pub high: u32,
     pub low: u32,

@@ -1,4 +1,6 @@
 // Document 01, 'The sheet and what is printed': what is written on standard output, by what was read on standard input.
+#![tactic(auto)]
+
 use actions::{ACTION_LENGTH, HEADER_LENGTH};
 use printed::MOST_ROOM;
 
@@ -16,7 +18,7 @@ pub enum Input {
 }
 
 // What is written then: so many bytes at the front of the lines, or nothing, since the input could not be read.
-#[derive(Drop)]
+#[derive(Clone, Copy)]
 pub enum Output {
     Text(usize),
     Unread,

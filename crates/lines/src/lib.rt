@@ -1,5 +1,7 @@
 // Document 01, 'The sheet and what is printed': the lines of actions by what their entries answered, written at a place of lent memory.
 // Each function answers the place after its line.
+#![tactic(auto)]
+
 ghost use Rattle.std.specs.Prelude.{◌+◌, ◌≤◌, ◌++◌, length};
 ghost use Rattle.printed.specs.Words.{decimal, ending};
 ghost use Rattle.printed.specs.Told.{told};

@@ -1,5 +1,7 @@
 // Routes for many pairs of labels over one book and of one choice, for C and Rust: numbers of 16 bits, a source and its destination one after the other, and one
 // answer of 64 bits for each pair.
+#![tactic(auto)]
+
 ghost use Rattle.std.specs.Prelude.{◌*◌, ◌≤◌, ◌≡◌, length};
 ghost use Rattle.book.specs.Standing.{Sound};
 ghost use Rattle.pairs.specs.Pairs.{pairs_in, RoutesPairs};

@@ -1,6 +1,8 @@
 // Which links on ways from a source to a destination a notice names. It is held against the two switches of its stage, or of its
 // column where it is of a switch. A notice of one switch names neither in most questions, and is passed over; a pattern is not, since a
 // test of it is wrong too often.
+#![tactic(auto)]
+
 ghost use Rattle.std.specs.Prelude.{◌≡◌, false, ℕ, ◌≤◌, ◌<◌};
 ghost use Rattle.notices.specs.declared.Target.TheVariants.{Links, Switch, Pattern};
 ghost use Rattle.notices.specs.Notices.{unfit};

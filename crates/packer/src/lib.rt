@@ -1,4 +1,6 @@
 // An answer as one number (`packed`): the table's number in the low byte, 0 where the call was accepted, and the value after it.
+#![tactic(auto)]
+
 ghost use Rattle.table.specs.Reply.{answer_says};
 ghost use Rattle.std.specs.Prelude.{◌≡◌, [], ◌∷◌, ℕ, ◌*◌, ◌^◌, ◌≤◌, ◌<◌};
 ghost use Rattle.tags.specs.Entries.{tag_says};

@@ -1,4 +1,6 @@
 // Document 01, 'Notices': notices in the places of an array, by rising number, and what an unused place holds.
+#![tactic(auto)]
+
 mod rows; // rows.rt: the bytes of a listing, and of a sheet's filings
 
 ghost use Rattle.std.specs.Prelude.{◌≡◌, Bool, true, [], ◌+◌, ◌-◌, ◌≤◌, ◌<◌, take, drop, replicate};

@@ -1,5 +1,7 @@
 // Document 01, 'The sheet and what is printed': the definitions of what is printed, what a run asks for and what it answers. There is
 // no code here: words, answers, lines and printer write it.
+#![tactic(auto)]
+
 use table::Refusal;
 
 // The room that a run asks for: 24 bytes for the first line and 48 for each action.

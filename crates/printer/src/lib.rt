@@ -1,4 +1,6 @@
 // Document 01, 'The sheet and what is printed': running a sheet, from its bytes to the bytes printed.
+#![tactic(auto)]
+
 ghost use Rattle.std.specs.Prelude.{ℕ, ◌+◌, ◌*◌, ◌≤◌, List, length};
 ghost use Rattle.printed.specs.Text.{sheet_line};
 ghost use Rattle.printed.specs.Runs.{first_line_room, action_room, RunsBy, Runs};

@@ -1,4 +1,6 @@
 // Document 01, 'The sheet and what is printed': from what was read on standard input to what is written on standard output.
+#![tactic(auto)]
+
 ghost use Rattle.std.specs.Prelude.{◌≤◌, length};
 ghost use Rattle.input.specs.Rooms.{input_room, text_room};
 ghost use Rattle.input.specs.Answers.{Within, AnswersText, WritesText};

@@ -1,4 +1,6 @@
 // Document 01, 'Numbers handed back', and document 02, §2: what the link test and the listing answer.
+#![tactic(auto)]
+
 use table::Refusal;
 
 // What the link test answers: clear, or the lowest number among the notices that stop the link.

@@ -1,5 +1,7 @@
 // Document 01, 'route', and document 02, §2 and §5: the first clear path over the links that counted notices of a book stop, or the stage that no clear walk
 // can cross and which counted notice stops the ways onward there.
+#![tactic(auto)]
+
 ghost use Rattle.std.specs.Prelude.{◌≡◌, ◌≤◌, ◌<◌};
 ghost use Rattle.standing.specs.Picked.{lowest};
 ghost use Rattle.book.specs.Standing.{standing, Sound};

@@ -1,5 +1,7 @@
 // Runs routes and walks on document 01's examples and on bad input, through open, file, route and walk, and prints a line
 // for each call.
+#![tactic(auto)]
+
 use book::Book;
 use notices::{Notice, Target};
 use routes::Found;

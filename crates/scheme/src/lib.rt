@@ -1,4 +1,6 @@
 // Document 01, 'Tags and steps': document 000's two-bit scheme. What a tag is, and the table of links, forward and backward.
+#![tactic(auto)]
+
 ghost use Rattle.std.specs.Prelude.{◌≡◌, false, ◌+◌, ◌*◌, ◌^◌, ◌≤◌, ◌<◌};
 ghost use Rattle.table.specs.Checks.{◌not_below◌};
 ghost use Rattle.fabric.specs.Labels.{size, bit};

@@ -1,4 +1,6 @@
 // Document 01, 'The sheet and what is printed', and document 02, §5: what the entries over a sheet answer.
+#![tactic(auto)]
+
 use table::Refusal;
 
 // What the sheet header answers.

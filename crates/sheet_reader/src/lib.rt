@@ -1,4 +1,6 @@
 // Document 01, 'The sheet and what is printed', and document 02, §5: a sheet's header, and the parts of a sheet that are its actions.
+#![tactic(auto)]
+
 ghost use Rattle.std.specs.Prelude.{◌≡◌, false, ◌+◌, ◌≤◌, length};
 ghost use Rattle.actions.specs.Layout.{header_length};
 ghost use Rattle.sheet.specs.Format.{each_in};

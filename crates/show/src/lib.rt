@@ -1,4 +1,6 @@
 // What the programs that run examples print: words, numbers, bytes and refusals, on standard output.
+#![tactic(auto)]
+
 use libc::STDOUT_FILENO;
 use table::Refusal;
 

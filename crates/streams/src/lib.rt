@@ -1,4 +1,6 @@
 // A program's standard streams: reading standard input, writing standard output, and what is said on standard error. The words are the program's.
+#![tactic(auto)]
+
 mod complaints; // complaints.rt: what went wrong, on standard error
 
 ghost use Rattle.std.specs.Prelude.{◌≡◌, length};

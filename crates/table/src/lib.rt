@@ -1,10 +1,12 @@
 // Document 01, 'Numbers handed back': the reasons for which an entry refuses.
+#![tactic(auto)]
+
 ghost use Rattle.std.specs.Prelude.{◌≡◌, ◌&&◌, ◌||◌};
 ghost use Rattle.table.specs.Numbers.{number_of};
 
 // One case for each number of the table that comes alone. Number 11 comes with a stage and number 17 ends a walk: they
 // are cases of the answers that give them.
-#[derive(Drop)]
+#[derive(Clone, Copy)]
 pub enum Refusal {
     // n outside 1 to 12
     Size,

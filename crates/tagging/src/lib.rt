@@ -1,4 +1,6 @@
 // Document 01, 'Numbers handed back': the entries tag to steps, steps to tag, and normal form of a tag.
+#![tactic(auto)]
+
 mod normal; // normal.rt: the normal form of a tag
 mod to_steps; // to_steps.rt: tag to steps
 mod to_tag; // to_tag.rt: steps to tag

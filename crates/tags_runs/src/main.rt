@@ -1,4 +1,6 @@
 // Runs the entries of the crate tags on examples of documents 01 and 000 and on bad input, and prints a line for each call.
+#![tactic(auto)]
+
 ghost use Rattle.std.specs.Prelude.{◌≤◌};
 
 use show::{bytes, number, refused, word};

@@ -1,4 +1,6 @@
 // Document 01, 'Notices', and document 02, §3 and §5: which links a notice names, the checks 4, 5 and 6 of a notice, and which routes count it.
+#![tactic(auto)]
+
 ghost use Rattle.std.specs.Prelude.{◌≡◌, ℕ, ◌≤◌, ◌<◌};
 ghost use Rattle.fabric.specs.Links.{lands};
 ghost use Rattle.notices.specs.declared.Target.TheVariants.{Switch};

@@ -1,4 +1,6 @@
 // Document 01, 'walk', and document 02, §2: walking a tag over the links that a book stops.
+#![tactic(auto)]
+
 ghost use Rattle.std.specs.Prelude.{◌≡◌, cond, ◌≤◌, ◌<◌, eqb};
 ghost use Rattle.fabric.specs.Labels.{size};
 ghost use Rattle.scheme.specs.Tags.{destination};

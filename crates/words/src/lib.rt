@@ -1,5 +1,7 @@
 // Document 01, 'The sheet and what is printed': words and numbers, written at a place of lent memory. Each function answers the
 // place after them.
+#![tactic(auto)]
+
 ghost use Rattle.std.specs.Prelude.{◌≡◌, [], ◌++◌, ◌+◌, ◌≤◌, length};
 ghost use Rattle.printed.specs.Words.{decimal, bits_from, ending, refusal};
 ghost use Rattle.words.specs.LastDigits.{last_digits, Reaches};

@@ -1,4 +1,6 @@
 // Document 02, §1 and §5: writing a book as a sheet.
+#![tactic(auto)]
+
 ghost use Rattle.std.specs.Prelude.{◌≡◌, List};
 ghost use Rattle.table.specs.Checks.{Check};
 ghost use Rattle.sheet.specs.Format.{header_bytes};

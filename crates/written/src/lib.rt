@@ -1,4 +1,6 @@
 // Document 02, §1 and §5: what writing a book as a sheet answers.
+#![tactic(auto)]
+
 use actions::{ACTION_LENGTH, HEADER_LENGTH};
 use table::Refusal;
 
