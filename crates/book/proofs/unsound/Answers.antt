@@ -4,17 +4,10 @@ use borrow.Author.Rules.{rules}
 use lib.ListN.{length}
 use Rattle.standing.proofs.Reading.{length_mapped}
 use Rattle.book.proofs.Filings.{sound_if}
-use Rattle.book.proofs.unsound.Statement.{statement}
-use Rattle.book.proofs.unsound.Tie as tie
+use Rattle.book.proofs.unsound.Goals as goal
 
-damaged-requires : tie.Need-damaged-requires
-damaged-requires c κs = search rules
-
-returns : tie.Need-returns
+pub returns : goal.returns
 returns c =
-    let b = c.before.before.args.book in
+    let b = c.args.book in
     let full : length b.notices ≡ 48 = search (rules, length_mapped) in
     (c.damaged.ensures, λ e. sound_if b full (sym c.damaged.ensures ∙ e))
-
-pub unsound-spec : {M : Type 1} → statement M
-unsound-spec = tie.close (tie.spec damaged-requires returns)
