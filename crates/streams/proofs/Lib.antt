@@ -1,2 +1,2 @@
--- what a number below zero means to a program
-pub mod Signs
+-- what a failed read means to a program
+pub mod Failures

@@ -9,37 +9,44 @@ ghost use Rattle.streams.specs.Reads.{input_at};
 
 pub use complaints::{complain, say, say_number};
 use input::Input;
-use libc::{STDIN_FILENO, STDOUT_FILENO};
+use std::io;
+use std::io::{Error, Read};
 
-// Reads until the input ends, the memory is full or a read fails. A read may bring fewer bytes than there is room for.
-pub fn read(memory: &mut [u8]) -> Input
+// Reads until the input ends, the memory is full or a read fails. A read may bring fewer bytes than there is room for. The cause of a failed
+// read is left in `cause`.
+pub fn read<R: Read>(reader: &mut R, memory: &mut [u8], cause: &mut Option<Error>) -> Input
     ensures { Within (length memory.new) result }
 {
     let mut bytes = 0;
     while bytes < memory.len() {
-        let answer = libc::read(STDIN_FILENO, &mut memory[bytes..]);
-        let more = io::count(answer, &memory[bytes..]);
-        if more == 0 {
-            return input_at(bytes, answer);
+        let answer = reader.read(&mut memory[bytes..]);
+        match answer {
+            Ok(0) => return input_at(bytes, answer, cause),
+            Ok(more) => bytes += more,
+            Err(_) => return input_at(bytes, answer, cause),
         }
-        bytes += more;
     }
     Input::Bytes(bytes)
 }
 
 // What reading gives once a read brings no more bytes: those that came before, or that it failed.
-fn input_at(bytes: usize, answer: isize) -> Input
+fn input_at(bytes: usize, answer: io::Result<usize>, cause: &mut Option<Error>) -> Input
     ensures { result ≡ input_at bytes answer }
 {
-    if answer < 0 {
-        return Input::Failed;
+    match answer {
+        Ok(_) => {}
+        Err(error) => {
+            *cause = Some(error);
+            return Input::Failed;
+        }
     }
     Input::Bytes(bytes)
 }
 
 // Writes the text on standard output, or says on standard error that it was not taken, in these words, and the cause.
-pub fn print(text: &[u8], unwritten: &[u8]) {
-    if !io::write_all(STDOUT_FILENO, text) {
-        complain(unwritten, b"\n");
+pub fn print(rt: &HostRuntime, text: &[u8], unwritten: &[u8]) {
+    match rt.write_all(text) {
+        Ok(()) => {}
+        Err(error) => complain(rt, unwritten, Some(error), b"\n"),
     }
 }
