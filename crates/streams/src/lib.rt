@@ -3,19 +3,21 @@
 
 mod complaints; // complaints.rt: what went wrong, on standard error
 
-ghost use Rattle.std.specs.Prelude.{◌≡◌, length};
+ghost use Rattle.std.specs.Prelude.{◌≡◌, length, IfSome};
 ghost use Rattle.input.specs.Answers.{Within};
-ghost use Rattle.streams.specs.Reads.{input_at};
+ghost use Rattle.streams.specs.Reads.{input_at, HoldsRead, CauseTold};
 
 pub use complaints::{complain, say, say_number};
 use input::Input;
 use std::io;
 use std::io::{Error, Read};
 
-// Reads until the input ends, the memory is full or a read fails. A read may bring fewer bytes than there is room for. The cause of a failed
-// read is left in `cause`.
+// Reads until the input ends, the memory is full or a read fails. A read may bring fewer bytes than there is room for. Where it is known what the
+// reader gives, the memory holds that. The cause of a read that failed is left in `cause`.
 pub fn read<R: Read>(reader: &mut R, memory: &mut [u8], cause: &mut Option<Error>) -> Input
-    ensures { Within (length memory.new) result }
+    ensures within { Within (length memory.new) result }
+    ensures held { IfSome (R.remaining reader.old) (λ all. HoldsRead memory.new result all) }
+    ensures told { CauseTold cause.old result cause.new }
 {
     let mut bytes = 0;
     while bytes < memory.len() {
@@ -31,7 +33,8 @@ pub fn read<R: Read>(reader: &mut R, memory: &mut [u8], cause: &mut Option<Error
 
 // What reading gives once a read brings no more bytes: those that came before, or that it failed.
 fn input_at(bytes: usize, answer: io::Result<usize>, cause: &mut Option<Error>) -> Input
-    ensures { result ≡ input_at bytes answer }
+    ensures value { result ≡ input_at bytes answer }
+    ensures told { CauseTold cause.old result cause.new }
 {
     match answer {
         Ok(_) => {}
