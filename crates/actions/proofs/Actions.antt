@@ -49,11 +49,13 @@ bytes_named : (a : Action) → IsAction a → named (fields_of (bytes_of a)) ≡
 bytes_named (Action.File x) i = file_named x.number x.target x.class
 bytes_named (Action.Withdraw k) i = withdraw_named k
 bytes_named (Action.Route s d choice) i = route_named s d choice
+bytes_named (Rattle.actions.specs.declared.Action.TheVariants.Refused _) i = elim i [ ]
 
 action_says_bytes : (a : Action) → IsAction a → action_says a ≡ accepted (bytes_of a)
 action_says_bytes (Action.File x) i = refl
 action_says_bytes (Action.Withdraw k) i = refl
 action_says_bytes (Action.Route s d choice) i = refl
+action_says_bytes (Rattle.actions.specs.declared.Action.TheVariants.Refused _) i = elim i [ ]
 
 -- no two actions have the same bytes
 pub bytes_tell : (a b : Action) → IsAction a → IsAction b → bytes_of a ≡ bytes_of b → a ≡ b
@@ -94,6 +96,7 @@ pub held_is_action : (a : Action) → InSheets a → IsAction a
 held_is_action (Action.File x) i = tt
 held_is_action (Action.Withdraw k) i = tt
 held_is_action (Action.Route s d choice) i = tt
+held_is_action (Rattle.actions.specs.declared.Action.TheVariants.Refused _) i = elim i [ ]
 
 -- the bytes of an action that a sheet can hold have no fault
 filing_passes : (k : ℕ) (t : Target) (class : ℕ) → class ≤ 1 → Passed (action_checks (filing_of k t class))
@@ -105,6 +108,7 @@ pub action_passes : (a : Action) → InSheets a → Passed (action_checks (bytes
 action_passes (Action.File x) i = filing_passes x.number x.target x.class i
 action_passes (Action.Withdraw k) i = passes refl (passes refl none)
 action_passes (Action.Route s d choice) i = passes refl (passes ((class_within choice).1 i) none)
+action_passes (Rattle.actions.specs.declared.Action.TheVariants.Refused _) i = elim i [ ]
 
 pub action_has_no_fault : (a : Action) → InSheets a → layout_fault (fields_of (bytes_of a)) ≡ false
 action_has_no_fault a i = passed_nth (action_checks (bytes_of a)) 1 (action_passes a i)
@@ -113,6 +117,7 @@ pub bytes_are_eleven : (a : Action) → IsAction a → length (bytes_of a) ≡ 1
 bytes_are_eleven (Action.File x) i = length_filing x
 bytes_are_eleven (Action.Withdraw k) i = refl
 bytes_are_eleven (Action.Route s d choice) i = refl
+bytes_are_eleven (Rattle.actions.specs.declared.Action.TheVariants.Refused _) i = elim i [ ]
 
 -- what is written reads as what was written: by its eleven bytes, and by the first ten of them where the class is zero
 pub reads_by_class : (part : List ℕ) (a : Action) → InSheets a → (length part ≡ 10) ⊎ (length part ≡ 11) → bytes_of a ≡ with_class part → ReadsAction part a
@@ -180,6 +185,7 @@ part_fault part why l r = go (refused_given (action_checks part) (with_class par
     go : Given (number_of why) (action_checks part) → why ≡ Refusal.Layout
     go (here h e) = absurd (true≢false (sym h ∙ (lengths_pass part).1 l))
     go (later h (here g e)) = number_tells why Refusal.Layout (sym e)
+    go (later h (later _ x9)) = elim x9 [ ]
 
 -- ten bytes, and the eleven with class zero, read as the same
 pub class_zero_alike : (part : List ℕ) (a : Action) → length part ≡ 10 → ReadsAction part a → ReadsAction (part ++ 0 ∷ []) a

@@ -1,7 +1,7 @@
 -- The action reader meets its promise where it refuses by a number that its checks give, and where it passes them.
 use mathlib.Core.Path.{◌≡◌, sym, ◌∙◌}
 use mathlib.Core.List.{List}
-use Prim.Native.Nat.{ℕ, ◌-◌}
+use Prim.Native.Nat.{ℕ}
 use Rattle.table.specs.declared.Refusal.{Refusal}
 use Rattle.table.specs.Numbers.{number_of}
 use Rattle.table.specs.Reply.{Reply.accepted, refused}

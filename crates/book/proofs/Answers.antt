@@ -1,14 +1,14 @@
 -- Whoever knows which check was given, or that all are passed, has an entry's whole promise.
 use mathlib.Core.Path.{◌≡◌, sym, ap, ◌∙◌}
 use mathlib.Core.Bool.{Bool, true, false, not}
-use mathlib.Core.List.{List, []}
-use Prim.Native.Nat.{ℕ, ◌≤◌, ◌<◌}
+use mathlib.Core.List.{List}
+use Prim.Native.Nat.{◌≤◌, ◌<◌}
 use native.Mathlib.Omega.{arith}
 use borrow.Author.Tests.{le-leb, lt-leb, not-false}
 use lib.ListN.{length}
 use Rattle.table.specs.declared.Refusal.{Refusal}
 use Rattle.table.specs.Numbers.{number_of}
-use Rattle.table.specs.Reply.{Reply, refused, answer_says}
+use Rattle.table.specs.Reply.{refused, answer_says}
 use Rattle.table.specs.Checks.{Check, Given, Passed, ◌not_below◌}
 use Rattle.table.proofs.Checks.{given_refuses, passed_accepts}
 use Rattle.book.specs.declared.Book.{Book}

@@ -1,5 +1,5 @@
 -- The book with a notice more, or one fewer, in its places is the book of `insert`, or of `without`.
-use mathlib.Core.Path.{◌≡◌, sym, ap₂}
+use mathlib.Core.Path.{◌≡◌, ap₂}
 use mathlib.Core.Bool.{true}
 use mathlib.Core.List.{List}
 use Prim.Native.Nat.{ℕ, suc, ◌+◌, ◌-◌, ◌≤◌}

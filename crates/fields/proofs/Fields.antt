@@ -61,6 +61,7 @@ kind_of_bytes : (a : Action) → IsAction a → kind_says a ≡ accepted (get_or
 kind_of_bytes (Action.File x) i = ap (λ b. accepted (b ∷ [])) (sym (first_of_filing x.number x.target x.class))
 kind_of_bytes (Action.Withdraw k) i = refl
 kind_of_bytes (Action.Route s d choice) i = refl
+kind_of_bytes (Action.Refused _) i = elim i [ ]
 
 pub kind_is_first_byte : (part : List ℕ) (a : Action) → IsAction a → ReadsAction part a → kind_says a ≡ accepted (get_or part 0 0 ∷ [])
 kind_is_first_byte part a i r =

@@ -39,6 +39,7 @@ fourteen_exactly sheet bytes h r = (
     there version n count rest v s (here g e) = true≢false (sym g ∙ ap wrong_mark s ∙ (header_read version n count rest v).3)
     there version n count rest v s (later g (here f e)) = zero_one (omega arith)
     there version n count rest v s (later g (later f (here d e))) = zero_one (omega arith)
+    there version n count rest v s (later g (later f (later _ x12))) = elim x12 [ ]
 
     go : ((version n count : ℕ) (rest : List ℕ) → (version ≡ 1) ⊎ (version ≡ 2) → sheet ≡ header_bytes version n count ++ rest → ⊥) → (b : Bool) → wrong_mark sheet ≡ b
         → checked (header_checks sheet) refused (Reply.accepted (size_in sheet ∷ count_in sheet ∷ version_in sheet ∷ [])) ≡ refused 14

@@ -1,11 +1,10 @@
 -- What an answer without a value says.
 use mathlib.Core.Path.{◌≡◌, refl, ap}
 use mathlib.Core.List.{[]}
-use Prim.Native.Nat.{ℕ}
 use Rattle.table.specs.declared.Answer.{Answer}
 use Rattle.table.specs.declared.Refusal.{Refusal}
 use Rattle.table.specs.Numbers.{number_of}
-use Rattle.table.specs.Reply.{Reply, refused, Numbered, answer_says}
+use Rattle.table.specs.Reply.{Reply, Numbered, answer_says}
 use Rattle.table.proofs.Numbers.{number_tells, above_zero}
 use Rattle.table.proofs.Checks.{zero_one}
 

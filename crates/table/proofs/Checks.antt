@@ -19,6 +19,7 @@ module _ {A : Type 0} (refuse : ℕ → A) (accept : A) where
   pub given_refuses : (k : ℕ) (cs : List Check) → Given k cs → checked cs refuse accept ≡ refuse k
   given_refuses k (c ∷ cs) (here h e) = rw (h, e)
   given_refuses k (c ∷ cs) (later h g) = rw h (given_refuses k cs g)
+  given_refuses k [] x' = elim x' [ ]
 
   pub passed_accepts : (cs : List Check) → Passed cs → checked cs refuse accept ≡ accept
   passed_accepts [] none = refl
@@ -83,6 +84,7 @@ passed_nth (c ∷ cs) (suc k) (passes h p) = passed_nth cs k p
 pub given_before : {k : ℕ} (cs ds : List Check) → Given k cs → Given k (cs ++ ds)
 given_before (c ∷ cs) ds (here h e) = here h e
 given_before (c ∷ cs) ds (later h g) = later h (given_before cs ds g)
+given_before {k = k} [] ds x' = elim x' [ ]
 
 pub given_after : {k : ℕ} (cs ds : List Check) → Passed cs → Given k ds → Given k (cs ++ ds)
 given_after [] ds none g = g

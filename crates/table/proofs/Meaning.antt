@@ -51,6 +51,7 @@ given_exactly k cs = (place cs, λ w. back cs w.0 w.1)
     place : (ds : List Check) → Given k ds → (i : ℕ) × FirstHolds k ds i
     place (c ∷ ds) (here h e) = (0, (h, e, λ j l. absurd (omega arith)))
     place (c ∷ ds) (later h g) = let w = place ds g in (suc w.0, (w.1.0, w.1.1, before c ds w.0 h w.1.2))
+    place [] x' = elim x' [ ]
 
     back : (ds : List Check) (i : ℕ) → FirstHolds k ds i → Given k ds
     back [] i w = absurd (true≢false (sym w.0))
@@ -75,6 +76,7 @@ when_exactly j k b = (told, λ w. here w.0 (sym w.1))
   where
     told : Given j ((k when b) ∷ []) → (b ≡ true) × (j ≡ k)
     told (here h e) = (h, sym e)
+    told (later _ x6) = elim x6 [ ]
 
 -- a refusal by a number alone has that number and no values
 pub refused_exactly : (k j : ℕ) (values : List ℕ) → (refused k ≡ Reply.refused_with j values) ↔ ((k ≡ j) × (values ≡ []))

@@ -17,7 +17,7 @@ use Rattle.table.proofs.Numbers.{above_zero}
 use Rattle.table.proofs.Checks.{given_refuses, passed_accepts, given_or_passed, accepted_passed, accepted_says, passed_nth, one_of, neither_of, zero_one}
 use Rattle.table.proofs.Meaning.{LineHolds, below_exactly, not_below_exactly}
 use Rattle.fabric.specs.Labels.{size, outside_sizes}
-use Rattle.fabric.specs.Walks.{Codes, Steps}
+use Rattle.fabric.specs.Walks.{Codes}
 use Rattle.fabric.proofs.Tests.{outside_exactly, some_stages, few_stages}
 use Rattle.scheme.specs.Tags.{tags, steps_of, normal_tag, IsNormal}
 use Rattle.scheme.proofs.Steps.{steps_of_tag}
