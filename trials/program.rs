@@ -1,5 +1,5 @@
 //! A program, started once for each input: what it writes to standard output and to standard error, and its status. It ends with status 0
-//! whatever happens, since a program in its language has no other.
+//! whatever happens.
 
 use crate::compared::Compared;
 use crate::rows::sheet_of;

@@ -16,17 +16,17 @@ pub fn filled(empty: Book) -> Book {
     book
 }
 
-pub fn run() {
-    word(b"a full book\n");
-    let b0 = filled(open(3));
-    word(b"standing");
-    number(b0.count as u64);
-    word(b"\n");
-    let b1 = file(b0, links(49, 1, 0, 1));
-    let b2 = file(b1, links(5, 1, 0, 1));
-    let b3 = withdraw(b2, 20);
-    let b4 = file(b3, links(49, 1, 0, 1));
-    let b5 = file(b4, links(50, 1, 0, 1));
-    let b6 = withdraw(b5, 49);
-    file(b6, links(65535, 1, 0, 1));
+pub fn run(rt: &HostRuntime) {
+    word(rt, b"a full book\n");
+    let b0 = filled(open(rt, 3));
+    word(rt, b"standing");
+    number(rt, b0.count as u64);
+    word(rt, b"\n");
+    let b1 = file(rt, b0, links(49, 1, 0, 1));
+    let b2 = file(rt, b1, links(5, 1, 0, 1));
+    let b3 = withdraw(rt, b2, 20);
+    let b4 = file(rt, b3, links(49, 1, 0, 1));
+    let b5 = file(rt, b4, links(50, 1, 0, 1));
+    let b6 = withdraw(rt, b5, 49);
+    file(rt, b6, links(65535, 1, 0, 1));
 }

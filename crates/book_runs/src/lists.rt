@@ -4,25 +4,25 @@ use book::Book;
 use show::word;
 
 // A listing, and the bytes of the memory after it.
-fn held(book: Book, memory: &mut [u8]) {
-    listing(book, memory);
-    show::bytes(memory);
-    word(b"\n");
+fn held(rt: &HostRuntime, book: Book, memory: &mut [u8]) {
+    listing(rt, book, memory);
+    show::bytes(rt, memory);
+    word(rt, b"\n");
 }
 
-pub fn run() {
-    word(b"listings\n");
-    let b0 = open(3);
+pub fn run(rt: &HostRuntime) {
+    word(rt, b"listings\n");
+    let b0 = open(rt, 3);
     let mut none = [170u8; 0];
-    listing(b0, &mut none);
-    let b1 = file(b0, pattern(8, 0, 1, 3, 4));
-    let b2 = file(b1, classed(switch(258, 2, 5), 1));
-    let b3 = file(b2, links(7, 0, 1, 4));
+    listing(rt, b0, &mut none);
+    let b1 = file(rt, b0, pattern(8, 0, 1, 3, 4));
+    let b2 = file(rt, b1, classed(switch(258, 2, 5), 1));
+    let b3 = file(rt, b2, links(7, 0, 1, 4));
     let mut short = [170u8; 32];
-    held(b3, &mut short);
+    held(rt, b3, &mut short);
     let mut just = [170u8; 33];
-    held(b3, &mut just);
+    held(rt, b3, &mut just);
     let mut long = [170u8; 36];
-    held(b3, &mut long);
-    held(open(0), &mut long);
+    held(rt, b3, &mut long);
+    held(rt, open(rt, 0), &mut long);
 }

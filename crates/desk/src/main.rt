@@ -7,14 +7,17 @@ ghost use Rattle.input.specs.declared.Output.{Output};
 ghost use Rattle.input.specs.Answers.{WritesText, Promised, text_printed};
 
 use input::Output;
+use std::io::Error;
 
-fn main() {
+fn main(rt: HostRuntime) {
     let mut sheet = [0u8; input::INPUT_ROOM];
-    let read = streams::read(&mut sheet);
+    let mut cause = None;
+    let read = streams::read(&mut rt.stdin(), &mut sheet, &mut cause);
     let mut lines = [0u8; input::TEXT_ROOM];
     let output = program::run(&sheet, read, &mut lines);
-    say(output);
+    say(&rt, output, cause);
     streams::print(
+        &rt,
         printed(&lines, output),
         b"desk: standard output did not take all lines",
     );
@@ -32,11 +35,13 @@ fn printed<'a>(lines: &'a [u8], output: Output) -> &'a [u8]
 }
 
 // Says on standard error why there is no text.
-fn say(output: Output) {
+fn say(rt: &HostRuntime, output: Output, cause: Option<Error>) {
     match output {
         Output::Text(_) => {}
         Output::Unread => streams::complain(
+            rt,
             b"desk: standard input could not be read",
+            cause,
             b"; nothing was run\n",
         ),
     }

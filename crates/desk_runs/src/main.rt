@@ -4,30 +4,45 @@
 
 ghost use Rattle.std.specs.Prelude.{◌+◌, ◌≤◌, ◌<◌, length};
 
-use libc::STDIN_FILENO;
 use printed::{MOST_ROOM, Ran};
+use std::io::Read;
 use table::Refusal;
 
-fn main() {
+fn main(rt: HostRuntime) {
     let mut memory = [0u8; 98304];
-    let bytes = io::read_full(STDIN_FILENO, &mut memory);
-    run_all(&memory[..bytes]);
+    let bytes = read_full(&mut rt.stdin(), &mut memory);
+    run_all(&rt, &memory[..bytes]);
     let empty = [b'F', b'S', b'H', 0, 1, 3, 0, 0];
     let mut short = [0u8; 23];
-    run(&empty, &mut short);
+    run(&rt, &empty, &mut short);
     let mut enough = [0u8; 24];
-    run(&empty, &mut enough);
+    run(&rt, &empty, &mut enough);
 }
 
-fn run_all(sheets: &[u8]) {
+// Reads until the input ends, the memory is full or a read fails, and answers how many bytes came.
+fn read_full<R: Read>(reader: &mut R, memory: &mut [u8]) -> usize
+    ensures { result ≤ length memory.new }
+{
+    let mut bytes = 0;
+    while bytes < memory.len() {
+        match reader.read(&mut memory[bytes..]) {
+            Ok(0) => return bytes,
+            Ok(more) => bytes += more,
+            Err(_) => return bytes,
+        }
+    }
+    bytes
+}
+
+fn run_all(rt: &HostRuntime, sheets: &[u8]) {
     let mut at = 0;
     while at < sheets.len() {
-        at = run_next(sheets, at);
+        at = run_next(rt, sheets, at);
     }
 }
 
 // Runs the sheet at a place, and answers the place after it.
-fn run_next(sheets: &[u8], at: usize) -> usize
+fn run_next(rt: &HostRuntime, sheets: &[u8], at: usize) -> usize
     requires { at < length sheets.now }
     ensures { (at < result) × (result ≤ length sheets.now) }
 {
@@ -42,7 +57,7 @@ fn run_next(sheets: &[u8], at: usize) -> usize
     }
     let end = start + bytes;
     let mut lines = [0u8; MOST_ROOM];
-    run(&sheets[start..end], &mut lines);
+    run(rt, &sheets[start..end], &mut lines);
     end
 }
 
@@ -52,22 +67,22 @@ fn wide(x: u8) -> usize
     x as usize
 }
 
-fn run(sheet: &[u8], memory: &mut [u8]) {
+fn run(rt: &HostRuntime, sheet: &[u8], memory: &mut [u8]) {
     match printer::run(sheet, memory) {
-        Ran::Printed(bytes) => print(memory, bytes),
-        Ran::Refused(why) => refused(why),
+        Ran::Printed(bytes) => print(rt, memory, bytes),
+        Ran::Refused(why) => refused(rt, why),
     }
 }
 
-fn print(memory: &[u8], bytes: usize)
+fn print(rt: &HostRuntime, memory: &[u8], bytes: usize)
     requires { bytes ≤ length memory.now }
 {
-    show::word(&memory[..bytes]);
-    show::word(b"\n");
+    show::word(rt, &memory[..bytes]);
+    show::word(rt, b"\n");
 }
 
-fn refused(why: Refusal) {
-    show::word(b"MEMORY");
-    show::refused(why);
-    show::word(b"\n\n");
+fn refused(rt: &HostRuntime, why: Refusal) {
+    show::word(rt, b"MEMORY");
+    show::refused(rt, why);
+    show::word(rt, b"\n\n");
 }

@@ -12,16 +12,19 @@ ghost use Rattle.finals.specs.Finals.{WritesFinal, AnswersFinal, sheet_printed};
 use book::Book;
 use finals::Final;
 use input::Input;
+use std::io::Error;
 use table::{Answer, Refusal};
 use written::Written;
 
-fn main() {
+fn main(rt: HostRuntime) {
     let mut sheet = [0u8; input::INPUT_ROOM];
-    let read = streams::read(&mut sheet);
+    let mut cause = None;
+    let read = streams::read(&mut rt.stdin(), &mut sheet, &mut cause);
     let mut memory = [0u8; written::MOST_WRITTEN];
     let answer = run(&sheet, read, &mut memory);
-    say(answer);
+    say(&rt, answer, cause);
     streams::print(
+        &rt,
         printed(&memory, answer),
         b"final_sheet: standard output did not take the whole sheet",
     );
@@ -75,19 +78,21 @@ fn printed<'a>(memory: &'a [u8], answer: Final) -> &'a [u8]
 }
 
 // Says on standard error why there is no sheet.
-fn say(answer: Final) {
+fn say(rt: &HostRuntime, answer: Final, cause: Option<Error>) {
     match answer {
         Final::Sheet(_) => {}
-        Final::Refused(why) => say_refused(why),
+        Final::Refused(why) => say_refused(rt, why),
         Final::Unread => streams::complain(
+            rt,
             b"final_sheet: standard input could not be read",
+            cause,
             b"; nothing was written\n",
         ),
     }
 }
 
-fn say_refused(why: Refusal) {
-    streams::say(b"final_sheet: SHEET REFUSED ");
-    streams::say_number(table::number(why) as u64);
-    streams::say(b"; nothing was written\n");
+fn say_refused(rt: &HostRuntime, why: Refusal) {
+    streams::say(rt, b"final_sheet: SHEET REFUSED ");
+    streams::say_number(rt, table::number(why) as u64);
+    streams::say(rt, b"; nothing was written\n");
 }

@@ -1,34 +1,33 @@
 // What the programs that run examples print: words, numbers, bytes and refusals, on standard output.
 #![tactic(auto)]
 
-use libc::STDOUT_FILENO;
 use table::Refusal;
 
-pub fn word(text: &[u8]) {
-    io::write_all(STDOUT_FILENO, text);
+pub fn word(rt: &HostRuntime, text: &[u8]) {
+    let _ = rt.write_all(text);
 }
 
 // A blank and a number.
-pub fn number(x: u64) {
-    word(b" ");
-    io::print_decimal(STDOUT_FILENO, x);
+pub fn number(rt: &HostRuntime, x: u64) {
+    word(rt, b" ");
+    let _ = print!(rt; "{x}");
 }
 
 // A blank, the word REFUSED and the number of document 01's table.
-pub fn refused(r: Refusal) {
-    word(b" REFUSED");
-    number(table::number(r) as u64);
+pub fn refused(rt: &HostRuntime, r: Refusal) {
+    word(rt, b" REFUSED");
+    number(rt, table::number(r) as u64);
 }
 
 // The bytes of a part, between brackets.
-pub fn bytes(part: &[u8]) {
-    word(b" [");
+pub fn bytes(rt: &HostRuntime, part: &[u8]) {
+    word(rt, b" [");
     let mut i = 0;
     while i < part.len() {
-        number(wide(part[i]));
+        number(rt, wide(part[i]));
         i += 1;
     }
-    word(b" ]");
+    word(rt, b" ]");
 }
 
 fn wide(x: u8) -> u64 {

@@ -1,2 +1,4 @@
--- what a number below zero means to a program
-pub mod Signs
+-- what a failed read means to a program
+pub mod Failures
+-- what several reads put into the memory
+pub mod Filled
