@@ -15,7 +15,7 @@ use Rattle.frontier.specs.Frontier.{lesser, advanced, mirrored}
 use Rattle.frontier.specs.WaysOnward.{ways_onward}
 use Rattle.paths.proofs.Named.{stage_named, none_clear}
 use Rattle.paths.proofs.Ways.{some_way}
-use Rattle.frontier.proofs.Frontier.{Looks, Holds, Found, looks_from, advanced_holds, onward_best, found_first}
+use Rattle.frontier.proofs.Frontier.{Looks, Holds, looks_from, advanced_holds, onward_best, found_first}
 use Rattle.frontier.proofs.WaysOnward.{ways_are}
 use Rattle.routes.specs.declared.Found as answer
 use Rattle.routes.specs.Routed.{Routed}

@@ -31,6 +31,8 @@ named : (k : ℕ) (whys : List Refusal) (cs : List Check) → numbers cs ≡ map
 named k [] (c ∷ cs) e g = absurd (zero_one cc)
 named k (why ∷ whys) (c ∷ cs) e (here h is) = let f : c.number ≡ number_of why = cc in (why, sym f ∙ is)
 named k (why ∷ whys) (c ∷ cs) e (later h g) = let f : numbers cs ≡ map number_of whys = cc in named k whys cs f g
+named k (why ∷ whys) [] e g = elim g [ ]
+named k [] [] e g = elim g [ ]
 
 refusal_of : (k : ℕ) (a : Change) (b : Book) → Given k (change_checks a b) → (why : Refusal) × (number_of why ≡ k)
 refusal_of k (Change.file x) b g =

@@ -3,7 +3,7 @@ use mathlib.Core.Path.{◌≡◌, refl, sym, ap, ◌∙◌, subst}
 use mathlib.Core.Logic.{◌⊎◌, inl, inr, ◌↔◌}
 use mathlib.Core.Bool.{not}
 use mathlib.Core.List.{List, [], ◌∷◌}
-use Prim.Native.Nat.{ℕ, ◌+◌, ◌*◌, ◌/◌, ◌%◌, ◌≤◌, ◌<◌}
+use Prim.Native.Nat.{ℕ, ◌*◌, ◌≤◌, ◌<◌}
 use native.Mathlib.Decide.{dec_lt}
 use native.Mathlib.Omega.{arith}
 use borrow.Author.Tests.{eqb-true, not-false, le-ltb, ltb-false}
@@ -13,7 +13,7 @@ use lib.Seq.{ext_get_or}
 use Rattle.table.specs.Reply.{Reply, refused}
 use Rattle.table.specs.Checks.{numbers, Given, Given.here, Passed, Passed.none, Passed.passes, ◌below◌}
 use Rattle.table.proofs.Checks.{given_refuses, passed_accepts, given_or_passed, passed_nth, neither, neither_of, equal}
-use Rattle.packing.specs.Packed.{packed, Tells}
+use Rattle.packing.specs.Packed.{packed}
 use Rattle.packing.proofs.Once.{tells_all, tells_once}
 use Rattle.book.specs.declared.Book.{Book}
 use Rattle.routes.specs.declared.Found.{Found}
@@ -86,3 +86,4 @@ module _ (b : Book) (choice : ℕ) (pairs before after : List ℕ) (r : ℕ) (v 
       go (inl (k, here t n)) =
           (v.says ∙ ap packed (given_refuses refused (Reply.accepted []) 13 (pairs_checks pairs before) (here t refl)), v.refuses k (here t n))
       go (inr p) = let w = (pairs_pass pairs before).0 p in absurd (h (pairs_in pairs) w.0 w.1)
+      go (inl (k, Rattle.table.specs.Checks.later _ x8)) = elim x8 [ ]

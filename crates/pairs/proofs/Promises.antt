@@ -1,17 +1,16 @@
 -- A pair more is answered by a store in the next place; the call refuses by the lengths alone.
 use mathlib.Core.Path.{◌≡◌, refl, sym, ap, ◌∙◌, subst}
 use mathlib.Core.Logic.{◌≢◌}
-use mathlib.Core.Bool.{true, false, not, ◌||◌}
-use mathlib.Core.List.{List, [], ◌∷◌}
-use Prim.Native.Nat.{ℕ, ◌+◌, ◌*◌, ◌/◌, ◌%◌, ◌≤◌, ◌<◌}
+use mathlib.Core.Bool.{◌||◌}
+use mathlib.Core.List.{List, []}
+use Prim.Native.Nat.{ℕ, ◌+◌, ◌*◌, ◌≤◌, ◌<◌}
 use native.Mathlib.Decide.{dec_lt}
 use native.Mathlib.Omega.{arith}
-use borrow.Author.Tests.{lt-ltb, le-ltb}
-use lib.Dec.{eqb}
+use borrow.Author.Tests.{lt-ltb}
 use lib.ListN.{length, get_or, set, length-set}
 use lib.Seq.{get_or-set_same, get_or-set_other}
 use Rattle.table.specs.Reply.{Reply, refused}
-use Rattle.table.specs.Checks.{Given, Given.here, Passed, checked, ◌below◌}
+use Rattle.table.specs.Checks.{Given, Given.here, ◌below◌}
 use Rattle.table.proofs.Checks.{given_refuses, passed_accepts, not_given_and_passed, unequal, equal}
 use Rattle.packing.specs.Packed.{packed, Tells}
 use Rattle.book.specs.declared.Book.{Book}

@@ -80,6 +80,7 @@ module _ (n : ℕ) (b : Book) (text : List ℕ) where
   no_five_given part short bytes s d choice reads (later g (here h e)) = zero_one (omega arith)
   no_five_given part short bytes s d choice reads (later g (later f (here h e))) =
       true≢false (sym h ∙ (class_within choice).1 (action_in_sheets part (Action.Route s d choice) short bytes tt reads))
+  no_five_given part short bytes s d choice reads (later g (later f (later _ x12))) = elim x12 [ ]
 
   -- so the answer of a route whose line is printed is never 5
   pub no_five_printed : (part : List ℕ) → length part ≤ 11 → ((i : ℕ) → get_or part i 0 < 256) → (s d choice : ℕ) → ReadsAction part (Action.Route s d choice)

@@ -32,7 +32,7 @@ one_end one =
     omega arith
 
 -- "a line per action"
-pub line_for_each : {sheet text : List ℕ} {n k : ℕ} → Lines sheet n k text → line_ends text ≡ k
+pub line_for_each : {sheet : List ℕ} {n : ℕ} {text : List ℕ} {k : ℕ} → Lines sheet n k text → line_ends text ≡ k
 line_for_each start = refl
 line_for_each {n = n} (more {k = k} {text = text} {next = next} {b = b} v made p) =
     let one = one_end (line_is_one n b next p.action p.tells) in

@@ -1,9 +1,8 @@
 -- What a run's answer says, when 13 is given, how much room is asked for, and what stands where in a text.
 use mathlib.Core.Path.{◌≡◌, refl, sym, ap, subst, ◌∙◌}
-use mathlib.Core.Bool.{false}
-use mathlib.Core.Logic.{◌⊎◌, inl, inr, ◌↔◌}
+use mathlib.Core.Logic.{◌↔◌}
 use mathlib.Core.List.{List, [], ◌∷◌, ◌++◌, append_assoc, append-nil}
-use Prim.Native.Nat.{ℕ, suc, ◌+◌, ◌≤◌, ◌<◌}
+use Prim.Native.Nat.{ℕ, suc, ◌+◌, ◌<◌}
 use native.Mathlib.Decide.{dec_lt}
 use native.Mathlib.Omega.{arith}
 use borrow.Author.Tests.{lt-ltb, le-ltb}
@@ -84,7 +83,7 @@ pub record LineIn (sheet : List ℕ) (n : ℕ) (text : List ℕ) (j : ℕ) : Typ
   pub stands : text ≡ first ++ (line ++ rest)
 
 -- "a line per action"
-pub action_line_at : {sheet text : List ℕ} {n k : ℕ} (j : ℕ) → j < k → Lines sheet n k text → LineIn sheet n text j
+pub action_line_at : {sheet : List ℕ} {n : ℕ} {text : List ℕ} {k : ℕ} (j : ℕ) → j < k → Lines sheet n k text → LineIn sheet n text j
 action_line_at j h start = absurd (omega arith)
 action_line_at {sheet = sheet} {n = n} j h (more {k = i} {text = text} {next = next} {b = b} v made p) = go (dec_lt j i) (λ less. action_line_at j less v)
   where

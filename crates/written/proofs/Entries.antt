@@ -49,6 +49,7 @@ last_given {k = k} (d ∷ cs) c (later h g) = further (last_given cs c g)
     further : Given k cs ⊎ (Passed cs × (c.number ≡ k) × (c.holds ≡ true)) → Given k (d ∷ cs) ⊎ (Passed (d ∷ cs) × (c.number ≡ k) × (c.holds ≡ true))
     further (inl v) = inl (later h v)
     further (inr v) = inr (passes h v.0, v.1, v.2)
+last_given {k = k} [] c (later h g) = elim g [ ]
 
 last_passed : (cs : List Check) (c : Check) → Passed (cs ++ c ∷ []) → Passed cs × (c.holds ≡ false)
 last_passed [] c (passes h none) = (none, h)
@@ -157,6 +158,7 @@ module _ (b : Book) (before after : List ℕ) (r : Written) (writes : Writes b b
       go : Refuses (book_checks b) b before 16 → unsound b ≡ true
       go (inl (here h e)) = h
       go (inr w) = let e = w.1 in absurd (zero_one (omega arith))
+      go (inl (later _ x7)) = elim x7 [ ]
 
   pub write_gives_thirteen : (written_says r ≡ refused 13) ↔ ((unsound b ≡ false) × (length before < 8 + each_for (standing b) * length (standing b)))
   write_gives_thirteen = ((λ e. go ((refused_where (book_checks b) b before after r writes 13).0 e)), (λ w. (refused_where (book_checks b) b before after r writes 13).1 (inr ((book_lets_pass b).1 w.0, refl, w.1))))
@@ -164,6 +166,7 @@ module _ (b : Book) (before after : List ℕ) (r : Written) (writes : Writes b b
       go : Refuses (book_checks b) b before 13 → (unsound b ≡ false) × (length before < 8 + each_for (standing b) * length (standing b))
       go (inl (here h e)) = absurd (zero_one (omega arith))
       go (inr w) = ((book_lets_pass b).0 w.0, w.2)
+      go (inl (later _ x7)) = elim x7 [ ]
 
   pub write_gives_length : (written_says r ≡ Reply.accepted ((8 + each_for (standing b) * length (standing b)) ∷ [])) ↔ ((unsound b ≡ false) × (8 + each_for (standing b) * length (standing b) ≤ length before))
   write_gives_length = (
