@@ -11,7 +11,6 @@ use Rattle.table.specs.Checks.{Check, Passed, Passed.none, Passed.passes, ◌not
 use Rattle.table.proofs.Checks.{passed_nth, neither, both_hold}
 use Rattle.fabric.specs.Labels.{size}
 use Rattle.fabric.specs.Walks.{walked}
-use Rattle.tags.specs.declared.Tag.{Tag}
 use Rattle.scheme.specs.Tags.{steered, steps_of, states_of, normal_tag}
 use Rattle.tags.specs.Entries.{tag_to_steps_checks, normal_form_checks}
 use Rattle.tags.proofs.Promises.{to_steps_accepts, form_accepts}

@@ -40,6 +40,7 @@ Known (c ∷ cs) = (number_of (by_number c.number) ≡ c.number) × Known cs
 known_given : {k : ℕ} (cs : List Check) → Known cs → Given k cs → number_of (by_number k) ≡ k
 known_given (c ∷ cs) known (here h e) = subst (λ (m : ℕ). number_of (by_number m) ≡ m) e known.0
 known_given (c ∷ cs) known (later h g) = known_given cs known.1 g
+known_given {k = k} [] known x'' = elim x'' [ ]
 
 -- an answer by checks says what they give
 module _ {A : Type 0} (says : A → Reply) (no : Refusal → A) (numbered : (r : Refusal) → says (no r) ≡ refused (number_of r)) (accept : A) where
