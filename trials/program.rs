@@ -100,8 +100,12 @@ impl Program {
         feed(&mut by_device, sheet.clone(), 8).join().expect("the input was written");
         self.complains(compared, "a full device as output", by_device, complaint("No space left on device (errno 28)"));
         let mut by_closed = start(self.closed(">&-").stdin(Stdio::piped()));
-        feed(&mut by_closed, sheet, 8).join().expect("the input was written");
+        feed(&mut by_closed, sheet.clone(), 8).join().expect("the input was written");
         self.complains(compared, "a closed output", by_closed, complaint("Bad file descriptor (errno 9)"));
+        let mut by_gone = start(self.command().stdin(Stdio::piped()).stdout(Stdio::piped()));
+        drop(by_gone.stdout.take());
+        feed(&mut by_gone, sheet, 8).join().expect("the input was written");
+        self.complains(compared, "a reader that has gone", by_gone, complaint("Broken pipe (errno 32)"));
     }
 
     fn complains(&self, compared: &mut Compared, case: &str, child: Child, complained: String) {
