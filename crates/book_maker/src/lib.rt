@@ -12,7 +12,8 @@ use book::{Book, Kept};
 use sheet::Header;
 use table::Answer;
 
-// The book that a sheet makes. A header that is refused makes none: its refusal comes with a book of size 0, as a refused opening's does.
+// The book that a sheet makes. A header that is refused makes none: its refusal comes with a book of size 0, as a refused opening's does. Each
+// arm returns by itself, and `after_one` changes the book in its place: a copy of the book less each time, and a call stays below 10 KiB of stack.
 pub fn book_of(sheet: &[u8]) -> Kept
     ensures { HandsOver sheet.now result.book result.answer }
 {
@@ -23,18 +24,18 @@ pub fn book_of(sheet: &[u8]) -> Kept
             version: _,
         } => {
             let book = after_all(sheet, n, count);
-            Kept {
+            return Kept {
                 book,
                 answer: Answer::Done,
-            }
+            };
         }
         Header::Refused(why) => {
             let none = Book::open(0);
             let book = none.book;
-            Kept {
+            return Kept {
                 book,
                 answer: Answer::Refused(why),
-            }
+            };
         }
     }
 }
@@ -50,32 +51,30 @@ fn after_all(sheet: &[u8], n: u8, count: u16) -> Book
     while k < count as usize {
         let part = sheet_reader::action_part(sheet, k);
         let action = action_bytes::read_action(part);
-        book = after_one(book, action);
+        after_one(&mut book, action);
         k += 1;
     }
     book
 }
 
-fn after_one(book: Book, action: Action) -> Book
-    requires { Sound book }
-    ensures { result ≡ run (changes_of action) book }
+fn after_one(book: &mut Book, action: Action)
+    requires { Sound book.old }
+    ensures { book.new ≡ run (changes_of action) book.old }
 {
     match action {
         Action::File(notice) => {
             let kept = book.filed(notice);
-            let filed = kept.book;
-            filed
+            *book = kept.book;
         }
         Action::Withdraw(k) => {
             let kept = book.withdrawn(k);
-            let left = kept.book;
-            left
+            *book = kept.book;
         }
         Action::Route {
             source: _,
             destination: _,
             choice: _,
-        } => book,
-        Action::Refused(_) => book,
+        } => {}
+        Action::Refused(_) => {}
     }
 }

@@ -158,11 +158,11 @@ pub extern "C" fn tabashfar_file_pattern(
 pub extern "C" fn tabashfar_withdraw(sheet: &[u8], number: u16, memory: &mut [u8]) -> u64
     ensures { Asks sheet.now (Change.withdraw number) memory.old memory.new result }
 {
-    let handed = book_of(sheet);
-    let makes = handed.answer;
+    let mut kept = book_of(sheet);
+    let makes = kept.answer;
     match makes {
         Answer::Done => {
-            let kept = handed.book.withdrawn(number);
+            kept = kept.book.withdrawn(number);
             written(writer::handed_back(kept, memory))
         }
         Answer::Refused(why) => refused(why),

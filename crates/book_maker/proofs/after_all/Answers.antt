@@ -9,8 +9,8 @@ loop-k-init c =
     let o = c.open-opened in
     (omega arith, after_none _ _ o.result o.ensures)
 
-pub after_one-book-requires : goal.after_one-book-requires
-after_one-book-requires c =
+pub after_one-requires : goal.after_one-requires
+after_one-requires c =
     after_sound c.requires.0 c.requires.1 c.loop-k.invariant.1
 
 pub loop-k-preserved : goal.loop-k-preserved
@@ -18,7 +18,7 @@ loop-k-preserved c =
     let v = c.loop-k in
     let part = c.action_part-part in
     let read = c.read_action-action in
-    (omega arith, rw (c.after_one-book.ensures, add-one) (after_more v.invariant.1 (rw part.ensures.result_value at read.ensures)))
+    (omega arith, rw (c.after_one.ensures, add-one) (after_more v.invariant.1 (rw part.ensures.result_value at read.ensures)))
 
 pub returns : goal.returns
 returns c =

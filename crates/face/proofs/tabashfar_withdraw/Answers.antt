@@ -6,10 +6,10 @@ use Rattle.face.proofs.tabashfar_withdraw.Goals as goal
 
 pub handed_back-requires : goal.handed_back-requires
 handed_back-requires c =
-    let handed = c.book_of-handed.ensures in
+    let handed = c.book_of-kept.ensures in
     let done = c.in-Done.is in
     λ e. changed_sound _ (Change.withdraw _) _ (handed_sound handed done) (handed_places handed done) c.withdrawn-kept.ensures
 
 pub returns-in-Done : goal.returns-in-Done
 returns-in-Done c =
-    over_handed c.book_of-handed.ensures c.in-Done.is (c.handed_back.result, c.handed_back.ensures _ _ _ c.withdrawn-kept.ensures, c.written.ensures)
+    over_handed c.book_of-kept.ensures c.in-Done.is (c.handed_back.result, c.handed_back.ensures _ _ _ c.withdrawn-kept.ensures, c.written.ensures)
