@@ -6,7 +6,7 @@
  * function is defined for every value of its numbers and for all bytes of every length, keeps no state, allocates nothing, and returns.
  *
  * TO LINK: `(cd crates/face && rt lib)` writes crates/face/out/libface.a, for Linux on x86-64, position independent. Of the C library it needs
- * memcpy and memset alone. A call uses less than 12 KiB of stack, the C library's part not counted: trials/stack.c fills a stack with a
+ * memcpy and memset alone. A call uses less than 10 KiB of stack, the C library's part not counted: trials/stack.c fills a stack with a
  * pattern, makes each call on it, over a sheet of 60 actions of either version, and looks how far the pattern is gone.
  *
  * AN ANSWER is one number. Its low byte is the number of document 01's table, 0 where the call was accepted; the bits from 8 on are the

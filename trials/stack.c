@@ -2,7 +2,7 @@
  * the pattern below it was not used. The sheets, one of each version, are those with the deepest calls: filings that find their place and filings
  * that are refused; from 3 to 3 no path is clear.
  *
- *     stack [MOST]     ends with 1 where a call uses more than MOST bytes; 12,288 where none is given
+ *     stack [MOST]     ends with 1 where a call uses more than MOST bytes; 10,240 where none is given
  */
 #define _XOPEN_SOURCE 700
 #include "../include/tabashfar.h"
@@ -120,7 +120,7 @@ static size_t deepest(int version, size_t *which) {
 }
 
 int main(int argc, char **argv) {
-    const size_t allowed = argc > 1 ? strtoul(argv[1], NULL, 10) : 12288;
+    const size_t allowed = argc > 1 ? strtoul(argv[1], NULL, 10) : 10240;
     int more = 0;
     for (int version = 1; version <= 2; version++) {
         size_t which = 0;
