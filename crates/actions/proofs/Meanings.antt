@@ -14,7 +14,7 @@ use Rattle.actions.specs.declared.Action.{Action}
 use Rattle.actions.specs.Format.{word, with_class, bytes_of}
 use Rattle.actions.specs.Entries.{no_part, action_checks}
 
--- "Numbers are big_endian.": the bytes 1 and 2 are 258
+-- "Numbers are big-endian.": the bytes 1 and 2 are 258
 pub big_endian : word (1 ∷ 2 ∷ []) 0 ≡ 258
 big_endian = refl
 

@@ -21,7 +21,7 @@ pub data Changes (sheet : List ℕ) : ℕ → List Change → Type 0 where
   none : Changes sheet 0 []
   more : {k : ℕ} {changes : List Change} {a : Action} → Changes sheet k changes → ReadsAction (part_of sheet k) a → Changes sheet (suc k) (changes ++ changes_of a)
 
--- "starting from an empty book": the book after a sheet's first k actions, in a fabric of n stages. `after_none` and `After-more` say how it comes
+-- "starting from an empty book": the book after a sheet's first k actions, in a fabric of n stages. `after_none` and `after_more` say how it comes
 -- about, `after_once` that there is one.
 pub record After (sheet : List ℕ) (n k : ℕ) (b : Book) : Type 0 where
   pub changes : List Change

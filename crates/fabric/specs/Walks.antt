@@ -13,7 +13,7 @@ pub record Steps (n : ℕ) (cs : List ℕ) : Type 0 where
   pub stages : length cs ≡ n
   pub codes : Codes cs
 
--- where a walk ends that leaves switch j of column i by links of these codes, a stage each: `Walked-on`
+-- where a walk ends that leaves switch j of column i by links of these codes, a stage each: `walked_on`
 unfoldable pub walked : ℕ → ℕ → ℕ → List ℕ → ℕ
 walked n i j [] = j
 walked n i j (c ∷ cs) = walked n (suc i) (lands n i c j) cs

@@ -14,7 +14,7 @@ Rule = ℕ → ℕ → ℕ → ℕ
 abbrev pub Alike : Rule → Rule → Type 0
 Alike f g = (i j c : ℕ) → (f i j c ≡ 0 → g i j c ≡ 0) × (g i j c ≡ 0 → f i j c ≡ 0)
 
--- none of the links of a walk from s is stopped: link by link, `Clear-none` and `Clear-next` (proofs/Alike.antt)
+-- none of the links of a walk from s is stopped: link by link, `clear_none` and `clear_next` (proofs/Alike.antt)
 abbrev pub Clear : ℕ → Rule → ℕ → List ℕ → Type 0
 Clear n stops s cs = (k : ℕ) → k < length cs → stops k (switch_at n s cs k) (get_or cs k 0) ≡ 0
 

@@ -6,8 +6,8 @@ use Rattle.frontier.proofs.Mirrored.{mirrored_lt}
 use Rattle.frontier.proofs.first_states.Goals as goal
 
 -- the states of fewer than 12 stages leave room for one more
-few-states : (i walk : ℕ) {states : ℕ} → i < 12 → states ≡ mirrored i walk → states * 2 < 4096
-few-states i walk h e = let m : 2 ^ i ≤ 2048 = pow_mono {j = 11} (omega arith) in let l = mirrored_lt i walk in omega arith
+few_states : (i walk : ℕ) {states : ℕ} → i < 12 → states ≡ mirrored i walk → states * 2 < 4096
+few_states i walk h e = let m : 2 ^ i ≤ 2048 = pow_mono {j = 11} (omega arith) in let l = mirrored_lt i walk in omega arith
 
 pub overflow_cast-walk : goal.overflow_cast-walk
 overflow_cast-walk c =
@@ -23,13 +23,13 @@ loop-i-init c = (omega arith, refl)
 pub overflow_mul-states : goal.overflow_mul-states
 overflow_mul-states c =
     let v = c.loop-i in
-    let l = few-states v.i c.first_of-walk.result (search rules) v.invariant.1 in
+    let l = few_states v.i c.first_of-walk.result (search rules) v.invariant.1 in
     omega arith
 
 pub overflow_add-states : goal.overflow_add-states
 overflow_add-states c =
     let v = c.loop-i in
-    let l = few-states v.i c.first_of-walk.result (search rules) v.invariant.1 in
+    let l = few_states v.i c.first_of-walk.result (search rules) v.invariant.1 in
     let b = c.bit_of.ensures.1 in
     omega arith
 

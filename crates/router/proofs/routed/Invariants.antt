@@ -16,9 +16,9 @@ use Rattle.router.proofs.routed.Given as goal
 
 -- after the first k notices
 pub record After (book : Book) (source destination choice : ℕ) (straights forks : List ℕ) (k : ℕ) (stops : Stops) : Type 0 where
-  pub source-label : source < size book.n
-  pub destination-label : destination < size book.n
-  pub right-choice : bad_class choice ≡ false
+  pub source_label : source < size book.n
+  pub destination_label : destination < size book.n
+  pub right_choice : bad_class choice ≡ false
   pub within : k ≤ book.count
   pub places : book.count ≤ length book.notices
   pub told : Told book.n straights forks (counted choice book) (those (counts choice) (drop k (standing book))) stops

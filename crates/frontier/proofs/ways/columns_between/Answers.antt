@@ -12,7 +12,7 @@ loop-i-init c =
       within = search rules;
       straights = refl;
       forks = refl;
-      straight-at = λ k h. absurd (omega arith);
+      straight_at = λ k h. absurd (omega arith);
       fork_at = λ k h. absurd (omega arith);
     }
 
@@ -29,9 +29,9 @@ loop-i-preserved c =
       within = omega arith;
       straights = length-set v.straight v.i _ ∙ w.straights;
       forks = length-set v.fork v.i _ ∙ w.forks;
-      straight-at =
+      straight_at =
           filled_more (λ k x. k ≤ a.n → x ≡ cond (eqb (bit k distance) 0) (above a.n a.source distance k) (lands a.n k 2 (above a.n a.source distance k)))
-          v.straight v.i _ (omega arith) w.straight-at
+          v.straight v.i _ (omega arith) w.straight_at
           (λ h. c.chosen.ensures ∙ rw (low h, high, right));
       fork_at =
           filled_more (λ k x. k ≤ a.n → x ≡ cond (not (eqb (bit k distance) 0)) (above a.n a.source distance k) (lands a.n k 2 (above a.n a.source distance k)))
@@ -45,6 +45,6 @@ returns c =
     let w = c.loop-i.invariant in
     let e = c.distance-distance.ensures in
     record {
-      straight = λ i h. w.straight-at i (omega arith) h ∙ sym (straight_where a.n a.source a.destination _ (search rules) (search rules) e i h);
+      straight = λ i h. w.straight_at i (omega arith) h ∙ sym (straight_where a.n a.source a.destination _ (search rules) (search rules) e i h);
       fork = λ i h. w.fork_at i (omega arith) h ∙ sym (fork_where a.n a.source a.destination _ (search rules) (search rules) e i h);
     }

@@ -12,7 +12,7 @@ pub record Filled (n s a i : ℕ) (straight fork : List ℕ) : Type 0 where
   pub within : i ≤ 13
   pub straights : length straight ≡ 13
   pub forks : length fork ≡ 13
-  pub straight-at : (k : ℕ) → k < i → k ≤ n → get_or straight k 0 ≡ cond (eqb (bit k a) 0) (above n s a k) (lands n k 2 (above n s a k))
+  pub straight_at : (k : ℕ) → k < i → k ≤ n → get_or straight k 0 ≡ cond (eqb (bit k a) 0) (above n s a k) (lands n k 2 (above n s a k))
   pub fork_at : (k : ℕ) → k < i → k ≤ n → get_or fork k 0 ≡ cond (not (eqb (bit k a) 0)) (above n s a k) (lands n k 2 (above n s a k))
 
 abbrev pub invariant-loop-i : goal.invariant-loop-i
