@@ -15,7 +15,7 @@ pub const TEN: usize = 10;
 pub const HEADER_LENGTH: usize = 8;
 
 // What the action reader answers. The choice of a route is 0 where all notices count, and 1 where broken ones alone do.
-#[derive(Drop)]
+#[derive(Clone, Copy)]
 pub enum Action {
     File(Notice),
     Withdraw(u16),

@@ -8,7 +8,7 @@ use super::pass::lower;
 use book::Book;
 
 // The lowest numbers that stop the three links of a switch, 0 for a link that is clear.
-#[derive(Drop)]
+#[derive(Clone, Copy)]
 pub struct Lowest {
     pub straight: u16,
     pub plus: u16,

@@ -18,7 +18,7 @@ pub struct Book {
 }
 
 // The book handed back with the answer.
-#[derive(Drop)]
+#[derive(Clone, Copy)]
 pub struct Kept {
     pub book: Book,
     pub answer: Answer,

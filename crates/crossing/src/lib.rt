@@ -12,7 +12,7 @@ use frontier::Stops;
 
 // The tag of the first clear path; or the stage that no clear walk can cross, with the ways onward there: a set of the three links that lead toward
 // the destination out of the column's two switches.
-#[derive(Drop)]
+#[derive(Clone, Copy)]
 pub enum Crossed {
     Tag(u32),
     Stuck { stage: u8, ways: u8 },

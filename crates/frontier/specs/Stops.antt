@@ -22,7 +22,7 @@ stops_from rule i straight fork =
 
 -- whether a set has the link of a code
 abbrev pub has : ℕ → ℕ → Bool
-has set c = (bit c set) == 1
+has set c = bit c set == 1
 
 -- the set of three links: "straight 1, plus 2, minus 4, added"
 abbrev pub set_of : Bool → Bool → Bool → ℕ

@@ -23,7 +23,7 @@ pub struct Front {
 }
 
 // The two switches of each column by what they do there: the one whose bit is right goes straight, the other one forks.
-#[derive(Drop)]
+#[derive(Clone, Copy)]
 pub struct Columns {
     pub straight: [u16; 13],
     pub fork: [u16; 13],
@@ -32,7 +32,7 @@ pub struct Columns {
 // Of the links that lead toward the destination out of a column's two switches, those that are stopped: the straight link of the switch
 // whose bit is right, and the nonstraight links of the other, which forks. A set of them at each stage, straight 1, plus 2, minus 4, in four
 // bits a stage, stage 0 lowest.
-#[derive(Drop)]
+#[derive(Clone, Copy)]
 pub struct Stops {
     pub sets: u64,
 }

@@ -11,7 +11,7 @@ pub const INPUT_ROOM: usize = HEADER_LENGTH + ACTION_LENGTH * 4096 + 1;
 pub const TEXT_ROOM: usize = MOST_ROOM;
 
 // What reading the input gives: how many bytes lie at the front of the memory, or that a read failed.
-#[derive(Drop)]
+#[derive(Clone, Copy)]
 pub enum Input {
     Bytes(usize),
     Failed,

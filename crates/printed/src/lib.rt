@@ -13,7 +13,7 @@ pub const ACTION_ROOM: usize = 48;
 pub const MOST_ROOM: usize = FIRST_LINE_ROOM + ACTION_ROOM * 4096;
 
 // What a run answers: how many bytes it wrote.
-#[derive(Drop)]
+#[derive(Clone, Copy)]
 pub enum Ran {
     Printed(usize),
     Refused(Refusal),

@@ -4,7 +4,7 @@
 use table::Refusal;
 
 // What the link test answers: clear, or the lowest number among the notices that stop the link.
-#[derive(Drop)]
+#[derive(Clone, Copy)]
 pub enum Link {
     Clear,
     Stopped(u16),
@@ -12,7 +12,7 @@ pub enum Link {
 }
 
 // What the listing answers: how many notices stand.
-#[derive(Drop)]
+#[derive(Clone, Copy)]
 pub enum Listing {
     Listed(usize),
     Refused(Refusal),

@@ -4,7 +4,7 @@
 use table::Refusal;
 
 // The tag of the first clear path; or the stage that no clear walk can cross, with the lowest number of a counted notice that stops a way onward there.
-#[derive(Drop)]
+#[derive(Clone, Copy)]
 pub enum Found {
     Tag(u32),
     None { stage: u8, number: u16 },

@@ -4,7 +4,7 @@
 use table::Refusal;
 
 // What the sheet header answers.
-#[derive(Drop)]
+#[derive(Clone, Copy)]
 pub enum Header {
     Sheet { n: u8, count: u16, version: u16 },
     Refused(Refusal),

@@ -99,8 +99,8 @@ pub fn has_action(sheet: &[u8], k: usize) -> Answer
 
 // "action k is handed back as those ten bytes of the sheet themselves", or eleven; "otherwise the empty part at the sheet's front."
 pub fn action_part<'a>(sheet: &'a [u8], k: usize) -> &'a [u8]
-    ensures result_value { result.now ≡ part_of sheet.now k }
-    ensures ref_ptr_value { (result.ref_ptr.0 ≡ sheet.entry.ref_ptr.0) × (result.ref_ptr.1 ≡ start_of sheet.now k + sheet.entry.ref_ptr.1) }
+    ensures bytes { result.now ≡ part_of sheet.now k }
+    ensures place { (result.ref_ptr.0 ≡ sheet.entry.ref_ptr.0) × (result.ref_ptr.1 ≡ start_of sheet.now k + sheet.entry.ref_ptr.1) }
 {
     match has_action(sheet, k) {
         Answer::Done => {

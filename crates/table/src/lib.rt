@@ -41,7 +41,7 @@ pub enum Refusal {
 }
 
 // What an entry answers that hands no value back.
-#[derive(Drop)]
+#[derive(Clone, Copy)]
 pub enum Answer {
     Done,
     Refused(Refusal),

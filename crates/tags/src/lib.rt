@@ -4,7 +4,7 @@
 use table::Refusal;
 
 // What steps to tag and the normal form of a tag answer.
-#[derive(Drop)]
+#[derive(Clone, Copy)]
 pub enum Tag {
     Normal(u32),
     Refused(Refusal),

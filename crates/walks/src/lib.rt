@@ -5,7 +5,7 @@ use table::Refusal;
 
 // What a walk answers: clear; the first stage whose link is stopped, with the lowest number of a notice that stops that link; or that it ended away
 // from its tag's destination.
-#[derive(Drop)]
+#[derive(Clone, Copy)]
 pub enum Ended {
     Clear,
     Stopped { stage: u8, number: u16 },

@@ -8,7 +8,7 @@ use table::Refusal;
 pub const MOST_WRITTEN: usize = HEADER_LENGTH + ACTION_LENGTH * 48;
 
 // What write answers: how many bytes the sheet has.
-#[derive(Drop)]
+#[derive(Clone, Copy)]
 pub enum Written {
     Sheet(u16),
     Refused(Refusal),

@@ -18,7 +18,7 @@ loop-k-preserved c =
     let v = c.loop-k in
     let part = c.action_part-part in
     let read = c.read_action-action in
-    (omega arith, rw (c.after_one.ensures, add-one) (after_more v.invariant.1 (rw part.ensures.result_value at read.ensures)))
+    (omega arith, rw (c.after_one.ensures, add-one) (after_more v.invariant.1 (rw part.ensures.bytes at read.ensures)))
 
 pub returns : goal.returns
 returns c =

@@ -30,7 +30,7 @@ pub loop-k-preserved : goal.loop-k-preserved
 loop-k-preserved c =
     let a = c.args in
     let v = c.loop-k in
-    let reads = rw c.action_part-part.ensures.result_value at c.read_action.ensures in
+    let reads = rw c.action_part-part.ensures.bytes at c.read_action.ensures in
     let line : LineWritten a.n v.book (part_of a.sheet.now v.k) v.out v.next c.match-read_action.book c.match-read_action.out c.match-read_action.next =
     elim c.match-read_action.branch [
       | in-File w ↦ rw (w.out-is, w.book-is, w.next-is) (line_told reads w.in-File.is (w.filed-kept.result, w.filed-kept.ensures, refl) (files_leave v.book _ w.filed-kept.result w.filed-kept.ensures) w.file_line-next.ensures)
