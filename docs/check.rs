@@ -1,15 +1,27 @@
 //! Holds docs/PROMISES.md to the repository: every name that a row cites stands in a file that the row cites, every file and every
 //! must-fail edit that it cites is there, every edit of the repository is cited and changes a text that stands once in its file, and
-//! every definition that a reader has to believe has a row. How the page is read is said at the page's top. Run at the repository's root.
+//! every definition that a reader has to believe has a row. How the page is read is said at the page's top.
+//!
+//! Holds comments and pages to docs/RULES.md, too: a heading of it that a comment of crates/ or a page cites is there, a text of three words or more
+//! that a comment of crates/ or of the trials' model has in double quotes stands there, word for word, and so does the sentence of each rule and demand in PROMISES.md.
+//! No comment and no page cites a document that the repository does not have. Run at the repository's root.
 
 use std::collections::{BTreeMap, BTreeSet};
 use std::fs;
 use std::process::exit;
 
 const PAGE: &str = "docs/PROMISES.md";
+const RULES: &str = "docs/RULES.md";
+
+/// The model of the trials, which quotes the rules that it was written from.
+const MODEL: &str = "trials/model.rs";
+/// Pages that tell how things came to be, and may cite what the repository does not have.
+const HISTORIES: [&str; 4] = ["docs/PORT.md", "docs/LANDINGS.md", "docs/DESIGN-PASS.md", "docs/DECISIONS.md"];
+/// Columns whose first cell is a sentence of docs/RULES.md.
+const SENTENCES: [&str; 4] = ["Rule", "Demand 1", "Demand 2", "Demand 3"];
 
 /// Columns whose first cell is a sentence or a number and cites nothing.
-const QUOTES: [&str; 6] = ["Document 01", "Demand 1", "Demand 2", "Demand 3", "Fact", "No."];
+const QUOTES: [&str; 6] = ["Rule", "Demand 1", "Demand 2", "Demand 3", "Fact", "No."];
 /// Words that stand before the name that a line declares.
 const LEADING: [&str; 10] = ["pub", "abbrev", "unfoldable", "record", "data", "extern", "\"C\"", "fn", "enum", "struct"];
 /// Columns that hold edits.
@@ -39,14 +51,20 @@ fn main() {
         check_old_texts(edit, &mut faults);
     }
     check_all_believed(&page, &rows, &mut faults);
+    let rules = Rules::read();
+    for row in &rows {
+        check_sentence(row, &rules, &mut faults);
+    }
+    let comments = check_citations(&rules, &mut faults);
     for fault in &faults {
         eprintln!("{fault}");
     }
     if !faults.is_empty() {
-        eprintln!("{PAGE}: {} faults", faults.len());
+        eprintln!("{PAGE} and {RULES}: {} faults", faults.len());
         exit(1);
     }
     println!("{PAGE}: {} rows, {} edits, all as cited", rows.len(), cited.len());
+    println!("{RULES}: {} headings, and what {comments} comments cite and quote", rules.headings.len());
 }
 
 fn read(path: &str) -> String {
@@ -249,4 +267,125 @@ fn definitions_of(text: &str) -> Vec<String> {
         names.push(name.to_string());
     }
     names
+}
+
+/// docs/RULES.md: its headings, and its text with one blank between words and no backticks.
+struct Rules {
+    headings: BTreeSet<String>,
+    text: String,
+}
+
+impl Rules {
+    fn read() -> Rules {
+        let page = read(RULES);
+        let headings = page.lines().filter_map(|l| l.strip_prefix("## ")).map(str::to_string).collect();
+        Rules { headings, text: spaced(&page) }
+    }
+
+    fn has(&self, quote: &str) -> bool {
+        self.text.contains(&spaced(quote))
+    }
+}
+
+/// A text with one blank between words, and without backticks.
+fn spaced(text: &str) -> String {
+    text.replace('`', "").split_whitespace().collect::<Vec<_>>().join(" ")
+}
+
+/// The first cell under a rule or a demand stands in docs/RULES.md, or what of it is in double quotes; what is in brackets is the page's own.
+fn check_sentence(row: &Row, rules: &Rules, faults: &mut Vec<String>) {
+    if !row.titles.first().is_some_and(|t| SENTENCES.contains(&t.as_str())) || row.cells[0].starts_with('(') {
+        return;
+    }
+    let sentence = row.cells[0].strip_prefix('"').and_then(|rest| rest.split('"').next()).unwrap_or(&row.cells[0]);
+    if !rules.has(sentence) {
+        faults.push(format!("{PAGE}:{}: '{sentence}' does not stand in {RULES}", row.line));
+    }
+}
+
+/// What comments and pages cite and quote; how many comments were looked at.
+fn check_citations(rules: &Rules, faults: &mut Vec<String>) -> usize {
+    let mut count = 0;
+    let below = ["crates", "trials", "bench", "include", "docs"].iter().flat_map(|folder| all_files(folder));
+    for path in below.chain(["README.md", "CONTRIBUTING.md", "crates.txt"].map(str::to_string)) {
+        let page = path.ends_with(".md");
+        if page && HISTORIES.contains(&path.as_str()) || !page && path.starts_with("docs/") {
+            continue;
+        }
+        for (line, comment) in comments_of(&path) {
+            count += 1;
+            let at = format!("{path}:{line}");
+            if comment.contains("ocument 0") || comment.contains("ocuments 0") {
+                faults.push(format!("{at}: cites a document that is not here: {comment:.90}"));
+            }
+            for heading in cited_headings(&comment).into_iter().filter(|h| !rules.headings.contains(h)) {
+                faults.push(format!("{at}: {RULES} has no heading '{heading}'"));
+            }
+            let quoting = path.starts_with("crates/") || path == MODEL;
+            for quote in comment.split('"').skip(1).step_by(2).filter(|q| quoting && q.split_whitespace().count() > 2) {
+                if !rules.has(quote) {
+                    faults.push(format!("{at}: \"{quote}\" does not stand in {RULES}"));
+                }
+            }
+        }
+    }
+    count
+}
+
+/// The headings of docs/RULES.md that a text cites: after the page's name, in single quotes, with `, ` or ` and ` between them.
+fn cited_headings(text: &str) -> Vec<String> {
+    let mut headings = Vec::new();
+    for after in text.split("docs/RULES.md, ").skip(1) {
+        let mut rest = after;
+        while let Some((heading, more)) = rest.strip_prefix('\'').and_then(|r| r.split_once('\'')) {
+            headings.push(heading.to_string());
+            rest = more.strip_prefix(", ").or(more.strip_prefix(" and ")).unwrap_or("");
+        }
+    }
+    headings
+}
+
+/// The comments of a file, each with the line where it begins: lines of comment that follow each other are one. A page is one comment.
+fn comments_of(path: &str) -> Vec<(usize, String)> {
+    let marks: &[&str] = match path.rsplit('.').next() {
+        Some("md") => return vec![(1, spaced(&read(path)))],
+        Some("antt") => &["--"],
+        Some("edit" | "txt") => &["# "],
+        Some("c" | "h") => &["///", "//", "/*", " *"],
+        Some("rt" | "rs") => &["///", "//!", "//"],
+        _ => return Vec::new(),
+    };
+    let mut comments: Vec<(usize, String)> = Vec::new();
+    let mut last = 0;
+    for (k, line) in read(path).lines().enumerate() {
+        let whole = marks.iter().find_map(|mark| line.strip_prefix(mark).or(line.trim_start().strip_prefix(mark)));
+        match (whole, behind_code(line, path)) {
+            (Some(text), _) if last == k && k > 0 => comments.last_mut().unwrap().1.push_str(&format!(" {}", text.trim())),
+            (Some(text), _) => comments.push((k + 1, text.trim().to_string())),
+            (None, Some(text)) => comments.push((k + 1, text.trim().to_string())),
+            (None, None) => continue,
+        }
+        last = if whole.is_some() { k + 1 } else { 0 };
+    }
+    comments.into_iter().map(|(line, text)| (line, spaced(&text))).collect()
+}
+
+/// A comment behind code: what follows the mark, where no text in quotes holds the mark.
+fn behind_code<'a>(line: &'a str, path: &str) -> Option<&'a str> {
+    let line = line.strip_prefix("old: ").or(line.strip_prefix("new: ")).unwrap_or(line);
+    let (code, text) = if path.ends_with(".antt") { line.split_once(" -- ")? } else { line.split_once("// ").or(line.split_once("/* "))? };
+    (code.matches('"').count() % 2 == 0).then_some(text)
+}
+
+/// Every file below a folder, by name, but for what a build has put there.
+fn all_files(folder: &str) -> Vec<String> {
+    let mut files = Vec::new();
+    for name in files_in(folder).into_iter().filter(|name| name != "out") {
+        let path = format!("{folder}/{name}");
+        match fs::metadata(&path) {
+            Ok(m) if m.is_dir() => files.extend(all_files(&path)),
+            _ => files.push(path),
+        }
+    }
+    files
 }
