@@ -60,3 +60,7 @@ turned k x =
     go p r l d (no z) =
         let o : bit k x ≡ 1 = omega (arith, bit_lt k x) in
         rw (o, d) (ap (λ (w : ℕ). w % (p * 2)) {x = 1 * p + r + p} {y = r + 1 * (p * 2)} (omega arith) ∙ add-mul-mod_self_right r 1 (p * 2) ∙ mod-eq_of_lt (omega arith) ∙ omega arith)
+
+-- what reading a bit of a number says of another number that is the same
+pub bit_read : (i j r : ℕ) → (k : ℕ) × (k ≡ j) × (r ≡ bit i k) × (r < 2) → r ≡ bit i j
+bit_read i j r w = w.2 ∙ ap (bit i) w.1

@@ -1,4 +1,4 @@
--- Laws of a single link: document 000's lemma 2.1, without the table that chooses the link.
+-- Laws of a single link: lemma 2.1 of docs/RULES.md, 'Tags and steps', without the table that chooses the link.
 use Rattle.std.proofs.Common.{◌≡◌, ℕ, zero, suc, ◌+◌, ◌-◌, ◌*◌, ◌%◌, ◌^◌, ◌<◌, ◌≤◌, ◌⊎◌, ◌↔◌, sym, refl, ap, ◌∙◌, inl, inr, ⊎_elim, mod-lt, mod-eq_of_lt, suc-mul, pow-suc, arith, pow_pos, pow_mono, pow-add}
 use native.Mathlib.Nat.{mod-add-mod, add-mod-mod, mod-mod, add-mod_right, mul-add-mod_self_right}
 use lib.Pow.{high}
@@ -6,7 +6,7 @@ use Rattle.fabric.specs.Labels.{size, bit, Agree}
 use Rattle.fabric.specs.Links.{Code, lands}
 use Rattle.fabric.proofs.Bits.{low_of_low, low_more, turned, agree_more, agree_bit, bit_of_low}
 
--- "straight (code 0)", "plus (code 1)", "minus (code 2)", and there is no other
+-- "Straight has code 0", "Plus has code 1", "Minus has code 2", and there is no other
 pub three_codes : (c : ℕ) → Code c ↔ ((c ≡ 0) ⊎ ((c ≡ 1) ⊎ (c ≡ 2)))
 three_codes c = (told c, ⊎_elim (λ e. omega arith) (⊎_elim (λ e. omega arith) (λ e. omega arith)))
   where
@@ -45,7 +45,8 @@ module _ (n i : ℕ) (h : i < n) where
   whole : (size n - 2 ^ i) + 2 ^ i ≡ size n
   whole = let l : 2 ^ i ≤ 2 ^ n = pow_mono (omega arith) in omega arith
 
-  -- "straight .. to j, plus .. to j + 2^i, minus .. to j - 2^i", with N taken off above N and added below zero
+  -- "Straight has code 0 and lands on j. Plus has code 1 and lands on j + 2^i. Minus has code 2 and lands on j - 2^i", with N taken off above N and added below
+  -- zero
   pub straight_lands : (j : ℕ) → lands n i 0 j ≡ j
   straight_lands j = refl
 
@@ -72,7 +73,7 @@ module _ (n i : ℕ) (h : i < n) where
   pub plus_then_minus : (j : ℕ) → j < size n → lands n i 2 (lands n i 1 j) ≡ j
   plus_then_minus j l = there_and_back n (2 ^ i) (size n - 2 ^ i) j (omega (arith, whole)) ∙ mod-eq_of_lt l
 
-  -- "At stage n-1 plus and minus reach the same switch"
+  -- "In the last stage plus and minus land on one switch"
   pub last_stage_meets : suc i ≡ n → (j : ℕ) → lands n i 1 j ≡ lands n i 2 j
   last_stage_meets e j =
       let d : size n ≡ 2 ^ i * 2 = ap (λ (m : ℕ). 2 ^ m) (sym e) ∙ pow-suc 2 i in

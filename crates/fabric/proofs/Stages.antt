@@ -84,7 +84,7 @@ module _ (n : ℕ) where
       whole : Steps n cs → take n cs ≡ cs
       whole steps = ap (λ (m : ℕ). take m cs) (sym steps.stages) ∙ take-length cs
 
-  -- "For s = d the straight path is the only one."
+  -- "From a label to itself only the straight path leads."
   straight_step : (s : ℕ) (cs : List ℕ) → Path n s s cs → (k : ℕ) → k < n → switch_at n s cs k ≡ s → get_or cs k 0 ≡ 0
   straight_step s cs p k h here =
       let l = p.steps.stages in

@@ -4,7 +4,7 @@ use Rattle.table.specs.Checks.{◌below◌}
 use Rattle.table.proofs.Checks.{neither, one_of, other_of, by_test, is_below, below_fails}
 use Rattle.fabric.specs.Labels.{outside_sizes, size}
 
--- "n outside 1 to 12"
+-- "n is 0 or above 12"
 pub outside_exactly : (n : ℕ) → (outside_sizes n ≡ true) ↔ ((n < 1) ⊎ (12 < n))
 outside_exactly n = (
   told (n below 1) refl,
@@ -15,7 +15,7 @@ outside_exactly n = (
     told true e h = inl (ltb-true n 1 e)
     told false e h = inr (ltb-true 12 n h)
 
--- "N = 2^n labels", for 1 to 12 stages
+-- "Its size N is 2^n", for 1 to 12 stages
 pub sizes_in_order :
     size 1 ∷ size 2 ∷ size 3 ∷ size 4 ∷ size 5 ∷ size 6 ∷ size 7 ∷ size 8 ∷ size 9 ∷ size 10 ∷ size 11 ∷ size 12 ∷ []
     ≡ 2 ∷ 4 ∷ 8 ∷ 16 ∷ 32 ∷ 64 ∷ 128 ∷ 256 ∷ 512 ∷ 1024 ∷ 2048 ∷ 4096 ∷ []

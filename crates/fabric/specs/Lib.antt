@@ -1,3 +1,4 @@
 pub mod Labels
 pub mod Links
 pub mod Walks
+pub mod Sizes

@@ -1,14 +1,15 @@
--- Document 01, 'Fabric': the three links of a switch.
+-- docs/RULES.md, 'Fabric': the three links of a switch.
 use Rattle.std.specs.Prelude.{ℕ, zero, suc, ◌+◌, ◌-◌, ◌%◌, ◌^◌, ◌<◌}
 use Rattle.fabric.specs.Labels.{size}
 
--- "straight (code 0)", "plus (code 1)", "minus (code 2)": `three_codes` (proofs/Links.antt)
+-- "Straight has code 0", "Plus has code 1", "Minus has code 2": `three_codes` (proofs/Links.antt)
 abbrev pub Code : ℕ → Type 0
 Code c = c < 3
 
--- "At stage i switch j has three links: straight (code 0) to j, plus (code 1) to j + 2^i, minus (code 2) to j - 2^i. All labels are
--- reduced modulo N, below zero as well as above." For a label below N, `straight_lands`, `plus_lands` and `minus_lands` say it by sums, and
--- `minus_then_plus` and `plus_then_minus` that the two undo each other (proofs/Links.antt).
+-- "Three links leave switch j at stage i. Straight has code 0 and lands on j. Plus has code 1 and lands on j + 2^i. Minus has code 2 and
+-- lands on j - 2^i. Every label is taken modulo N, whether it falls below 0 or reaches N." For a label below N, `straight_lands`,
+-- `plus_lands` and `minus_lands` say it by sums, and `minus_then_plus` and `plus_then_minus` that the two undo each other
+-- (proofs/Links.antt).
 abbrev pub lands : ℕ → ℕ → ℕ → ℕ → ℕ
 lands n i zero j = j
 lands n i (suc zero) j = (j + 2 ^ i) % size n

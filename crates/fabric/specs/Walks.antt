@@ -1,5 +1,6 @@
--- Document 01, 'Fabric' and 'Tags and steps': "Stages 0 to n-1 hold links; columns 0 to n hold switches"; "Steps are n
--- codes, stage 0 first." The theorems named here stand in proofs/Stages.antt.
+-- docs/RULES.md, 'Fabric' and 'Tags and steps': "Links lie in stages, numbered from 0 to n-1. Switches stand in
+-- columns, numbered from 0 to n"; "Steps are a row of n codes, that of stage 0 in front." The theorems named here
+-- stand in proofs/Stages.antt.
 use Rattle.std.specs.Prelude.{◌≡◌, ℕ, suc, List, [], ◌∷◌, length, take}
 use Rattle.fabric.specs.Links.{Code, lands}
 
@@ -23,7 +24,8 @@ abbrev pub switch_at : ℕ → ℕ → List ℕ → ℕ → ℕ
 switch_at n s cs k = walked n 0 s (take k cs)
 
 -- a path from s to d: n links, from column 0 to column n. `path_exactly` says that it lies at s in column 0 and at d in column n;
--- `straight_exactly`, "For s = d the straight path is the only one", says both that it is a path and that there is no other.
+-- `straight_exactly`, "From a label to itself only the straight path leads", says both that it is a path and that there is no
+-- other.
 pub record Path (n s d : ℕ) (cs : List ℕ) : Type 0 where
   pub steps : Steps n cs
   pub arrives : walked n 0 s cs ≡ d

@@ -1,4 +1,4 @@
--- The states of steps as a number whose highest bit is the state of stage 0: the order of these numbers is 01's order of
+-- The states of steps as a number whose highest bit is the state of stage 0: the order of these numbers is the order of
 -- paths.
 use mathlib.Core.Path.{◌≡◌, sym, ap, ap₂, ◌∙◌}
 use mathlib.Core.List.{List, [], ◌∷◌, ◌++◌}

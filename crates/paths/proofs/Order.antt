@@ -1,4 +1,4 @@
--- 01's order of paths: it is that of their tags' states, stage 0 first, and so the order of keys; of clear paths no two are first.
+-- The order of paths: it is that of their tags' states, stage 0 first, and so the order of keys; of clear paths no two are first.
 use mathlib.Core.Path.{◌≡◌, refl, sym, ap, ap₂, subst, ◌∙◌}
 use mathlib.Core.List.{List, [], ◌∷◌, ◌++◌}
 use mathlib.Core.Logic.{◌⊎◌, inl, inr, ◌↔◌}
@@ -79,7 +79,8 @@ pub record StatesBefore (n a b : ℕ) : Type 0 where
   pub zero_there : state n a stage ≡ 0
   pub one_there : state n b stage ≡ 1
 
--- "where two paths first part, the one whose state bit there is 0 comes first": by the state bits of the paths' normal tags
+-- "two paths are compared at the first stage where they differ, and the one with state 0 there goes before the other": by the state bits of the paths' normal
+-- tags
 pub before_exactly : (n s d : ℕ) → s < size n → (cs ds : List ℕ) → Path n s d cs → Path n s d ds
     → ComesBefore n s cs ds ↔ StatesBefore n (normal_tag n s cs) (normal_tag n s ds)
 before_exactly n s d source cs ds p q = (told, back)

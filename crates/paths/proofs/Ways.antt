@@ -102,7 +102,8 @@ module _ (n : ℕ) (stops : Rule) (s d i : ℕ) (inside : i < n) where
   beyond_way : (cs : List ℕ) (c : ℕ) → Beyond cs c → Way n stops s d i (walked n 0 s cs) c
   beyond_way cs c b = onward_way cs c b.clear b.code (subst (λ (x : ℕ). Agree (suc i) x d) (next_end cs c b.clear) b.agrees)
 
-  -- "the lowest number that stops any way onward", over all such walks: it stops the last link of one of them, and none that stops another's is lower
+  -- "the lowest of a notice that counts and stops a way onward", over all such walks: it stops the last link of one of them, and none that stops another's is
+  -- lower
   pub number_by_walks : (k : ℕ) → NumberNamed n stops s d i k
       ↔ ((1 ≤ k) × ((cs : List ℕ) × (c : ℕ) × Beyond cs c × (stops i (walked n 0 s cs) c ≡ k))
       × ((cs : List ℕ) (c : ℕ) → Beyond cs c → 1 ≤ stops i (walked n 0 s cs) c → k ≤ stops i (walked n 0 s cs) c))

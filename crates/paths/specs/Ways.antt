@@ -1,14 +1,14 @@
--- Document 02, §2: the ways onward at a stage, and the number that is named where none of them is clear. The theorems named here stand in
--- proofs/Ways.antt.
+-- docs/RULES.md, 'Routes': the ways onward at a stage, and the number that is named where none of them is clear. The theorems named here
+-- stand in proofs/Ways.antt.
 use Rattle.std.specs.Prelude.{◌≡◌, List, ℕ, suc, ◌≤◌, length}
 use Rattle.fabric.specs.Labels.{Agree}
 use Rattle.fabric.specs.Links.{Code, lands}
 use Rattle.fabric.specs.Walks.{Codes, walked}
 use Rattle.paths.specs.Clear.{Rule, Clear}
 
--- "any way onward toward the destination from a switch reached clear": the link of code c that leaves switch j at stage i, where a clear walk of i
--- links from s reaches j, and the link's far end agrees with d in its low i+1 bits. What makes a walk clear is left open: below it is a rule, and of a run
--- of filings and withdrawals the notices that stand (`StopsAWaySince`, promises/specs/Clearness.antt).
+-- "it leaves a switch at which a clear walk has arrived, and it leads toward the destination": the link of code c that leaves switch j at stage i, where a
+-- clear walk of i links from s reaches j, and the link's far end agrees with d in its low i+1 bits. What makes a walk clear is left open: below it is a
+-- rule, and of a run of filings and withdrawals the notices that stand (`StopsAWaySince`, promises/specs/Clearness.antt).
 pub record WayBy (clear : List ℕ → Type 0) (n s d i j c : ℕ) : Type 0 where
   pub walk : List ℕ
   pub links : length walk ≡ i
@@ -24,8 +24,8 @@ pub record WayBy (clear : List ℕ → Type 0) (n s d i j c : ℕ) : Type 0 wher
 abbrev pub Way : ℕ → Rule → ℕ → ℕ → ℕ → ℕ → ℕ → Type 0
 Way n stops s d i j c = WayBy (Clear n stops s) n s d i j c
 
--- "the lowest number that stops any way onward": `number_by_walks` says it over all walks of i+1 links toward d of which all but the last link
--- are clear, `number_once` that there is at most one
+-- "the lowest of a notice that counts and stops a way onward": `number_by_walks` says it over all walks of i+1 links toward d of which all but
+-- the last link are clear, `number_once` that there is at most one
 pub record NumberNamed (n : ℕ) (stops : Rule) (s d i k : ℕ) : Type 0 where
   pub switch : ℕ
   pub code : ℕ

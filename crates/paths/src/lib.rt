@@ -1,2 +1,2 @@
-// Document 01, 'Tags and steps': clear paths, the first of them, and the stage that is named. There is no code here.
+// docs/RULES.md, 'Routes': clear paths, the first of them, and the stage that is named. There is no code here.
 #![tactic(auto)]

@@ -72,7 +72,7 @@ module _ (n s : ℕ) (source : s < size n) (cs : List ℕ) where
   pub steps_come_back : Steps n cs → steps_of n s (normal_tag n s cs) ≡ cs
   steps_come_back p = follows_tag n s (normal_tag n s cs) cs p.stages (normal_follows p)
 
-  -- "destination reached, and state 0 wherever the step is straight"
+  -- "the destination that they lead to, and state 0 at each straight step"
   pub normal_tag_is : Steps n cs → IsNormal n s cs (normal_tag n s cs)
   normal_tag_is p =
       let l = p.stages in

@@ -1,4 +1,4 @@
--- Steps that a destination and a state of every switch give: document 000's lemma 2.1 and theorem 3.1, for every n.
+-- Steps that a destination and a state of every switch give: lemma 2.1 and theorem 3.1 of docs/RULES.md, 'Tags and steps', for every n.
 use mathlib.Core.Path.{◌≡◌, refl, sym, ap, subst, ◌∙◌}
 use mathlib.Core.List.{List, [], ◌∷◌}
 use Prim.Native.Nat.{ℕ, zero, suc, ◌+◌, ◌≤◌, ◌<◌}

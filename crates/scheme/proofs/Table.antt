@@ -6,7 +6,7 @@ use native.Mathlib.Omega.{arith}
 use Rattle.fabric.specs.Links.{Code}
 use Rattle.scheme.specs.Scheme.{link, state_for}
 
--- 01's table from top to bottom: bit i of j, t, state 0 and then 1
+-- The table of links from top to bottom: bit i of j, t, state 0 and then 1
 pub table_in_rows :
     link 0 0 0 ∷ link 0 0 1 ∷ link 0 1 0 ∷ link 0 1 1 ∷ link 1 1 0 ∷ link 1 1 1 ∷ link 1 0 0 ∷ link 1 0 1 ∷ []
     ≡ 0 ∷ 0 ∷ 1 ∷ 2 ∷ 0 ∷ 0 ∷ 2 ∷ 1 ∷ []

@@ -7,11 +7,11 @@ use lib.Pow.{shr-shr, pow_pos, pow-add}
 use Rattle.fabric.specs.Labels.{size, bit}
 use Rattle.scheme.specs.Tags.{tags, destination, state}
 
--- "below 2^(2n)": as many tags as there are destinations times n states
+-- "less than 2^(2n)": as many tags as there are destinations times n states
 pub tags_counted : (n : ℕ) → tags n ≡ size n * size n
 tags_counted n = ap (λ (m : ℕ). 2 ^ m) {x = 2 * n} {y = n + n} (omega arith) ∙ pow-add 2 n n
 
--- "Its bits 0 to n-1 are the destination; bit n+i is the state of stage i": of a tag made of the two
+-- "The low n bits hold the destination, and bit n+i holds the state of stage i": of a tag made of the two
 pub tag_destination : (n d states : ℕ) → d < size n → destination n (d + size n * states) ≡ d
 tag_destination n d states h = add-mul-mod_self_left d (size n) states ∙ mod-eq_of_lt h
 

@@ -1,4 +1,5 @@
--- `checked` is document 01's sentence: a number is given exactly when its line holds and no earlier check failed.
+-- `checked` is the sentence of docs/RULES.md, 'Numbers handed back': a number is given where its line holds and every check before it has passed, and nowhere
+-- else.
 use mathlib.Core.Path.{◌≡◌, refl, sym, ap, ◌∙◌}
 use mathlib.Core.Bool.{Bool, true, false, not, ◌&&◌, ◌||◌, true≢false}
 use mathlib.Core.List.{List, [], ◌∷◌, ◌++◌}

@@ -35,7 +35,7 @@ numbers_at [] i = refl
 numbers_at (c ∷ cs) zero = refl
 numbers_at (c ∷ cs) (suc i) = numbers_at cs i
 
--- "exactly when its line holds and no earlier check failed"
+-- "where its line holds and every check before it has passed, and nowhere else"
 abbrev pub FirstHolds : ℕ → List Check → ℕ → Type 0
 FirstHolds k cs i =
     LineHolds cs i × ((get_or cs i (0 when false)).number ≡ k) × ((j : ℕ) → j < i → (get_or cs j (0 when false)).holds ≡ false)

@@ -1,4 +1,4 @@
--- The numbers of the refusals are those of 01's table, and no two refusals have one number.
+-- The numbers of the refusals are those of the table of numbers, and no two refusals have one number.
 use mathlib.Core.Path.{◌≡◌, refl, sym, ap, ◌∙◌}
 use mathlib.Core.List.{[], ◌∷◌}
 use Prim.Native.Nat.{ℕ, ◌≤◌, ◌<◌}
@@ -8,7 +8,7 @@ use Rattle.table.specs.declared.Refusal.{Refusal}
 use Rattle.table.specs.declared.Refusal.TheVariants.{Size, Layout, Zero, Place, Field, Wide, Stands, Full, Absent, Label, Tag, Room, Mark, Length, Book}
 use Rattle.table.specs.Numbers.{number_of}
 
--- 01's table from top to bottom: 11 comes with a stage, and 17 ends a walk
+-- The table of numbers from top to bottom: 11 comes with a stage, and 17 ends a walk
 pub table_in_order :
     number_of Size ∷ number_of Layout ∷ number_of Zero ∷ number_of Place ∷ number_of Field ∷ number_of Wide ∷ number_of Stands ∷ number_of Full
     ∷ number_of Absent ∷ number_of Label ∷ number_of Tag ∷ number_of Room ∷ number_of Mark ∷ number_of Length ∷ number_of Book ∷ []

@@ -1,5 +1,5 @@
--- Document 01, 'Numbers handed back': "Each is given exactly when its line holds and no earlier check failed." The theorems named here
--- stand in proofs/Checks.antt and proofs/Meaning.antt.
+-- docs/RULES.md, 'Numbers handed back': "A number is given where its line holds and every check before it has passed, and nowhere
+-- else." The theorems named here stand in proofs/Checks.antt and proofs/Meaning.antt.
 use Rattle.std.specs.Prelude.{◌≡◌, Bool, true, false, cond, List, [], ◌∷◌, ℕ, leb, ltb}
 
 -- a number of the table, and whether its line holds. `when_exactly` says that a check by itself gives its number exactly where its
@@ -20,8 +20,8 @@ a below b = ltb a b
 abbrev pub ◌not_below◌ : ℕ → ℕ → Bool
 a not_below b = leb b a
 
--- the numbers of an entry's checks, in the order in which they are judged: what 01's line for the entry lists. `numbers_all` and
--- `numbers_at` say that each check has its number there, in its place.
+-- the numbers of an entry's checks, in the order in which they are judged: what the line of docs/RULES.md for the entry lists.
+-- `numbers_all` and `numbers_at` say that each check has its number there, in its place.
 abbrev pub numbers : List Check → List ℕ
 numbers [] = []
 numbers (c ∷ cs) = c.number ∷ numbers cs

@@ -1,6 +1,6 @@
--- Document 01, 'Numbers handed back': the number of each refusal. 11 comes with a stage and 17 ends a walk: `walk_says` of walks and
--- `route_says` of routes give them. `table_in_order` says that these are 01's numbers from top to bottom, `number_tells` that no two
--- refusals share one, `above_zero` that none is 0 (proofs/Numbers.antt).
+-- docs/RULES.md, 'Numbers handed back': the number of each refusal. 11 comes with a stage and 17 ends a walk: `walk_says` of walks
+-- and `route_says` of routes give them. `table_in_order` says that these are the table's numbers from top to bottom, `number_tells`
+-- that no two refusals share one, `above_zero` that none is 0 (proofs/Numbers.antt).
 use Rattle.std.specs.Prelude.{ℕ}
 use Rattle.table.specs.declared.Refusal.{Refusal}
 use Rattle.table.specs.declared.Refusal.TheVariants.{Size, Layout, Zero, Place, Field, Wide, Stands, Full, Absent, Label, Tag, Room, Mark, Length, Book}

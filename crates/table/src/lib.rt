@@ -1,12 +1,12 @@
-// Document 01, 'Numbers handed back': the reasons for which an entry refuses.
+// docs/RULES.md, 'Numbers handed back': the reasons for which an entry refuses.
 #![tactic(auto)]
 
-ghost use Rattle.std.specs.Prelude.{◌≡◌, ◌&&◌, ◌||◌};
+ghost use Rattle.std.specs.Prelude.{◌≡◌};
 ghost use Rattle.table.specs.Numbers.{number_of};
 
 // One case for each number of the table that comes alone. Number 11 comes with a stage and number 17 ends a walk: they
 // are cases of the answers that give them.
-#[derive(Clone, Copy)]
+#[derive(Clone, Copy, Debug, PartialEq, Eq)]
 pub enum Refusal {
     // n outside 1 to 12
     Size,
@@ -40,45 +40,28 @@ pub enum Refusal {
     Book,
 }
 
-// What an entry answers that hands no value back.
-#[derive(Clone, Copy)]
-pub enum Answer {
-    Done,
-    Refused(Refusal),
-}
-
-// The number that the table gives a refusal.
-pub fn number(refusal: Refusal) -> u8
-    ensures { result ≡ number_of refusal }
-{
-    match refusal {
-        Refusal::Size => 1,
-        Refusal::Layout => 2,
-        Refusal::Zero => 3,
-        Refusal::Place => 4,
-        Refusal::Field => 5,
-        Refusal::Wide => 6,
-        Refusal::Stands => 7,
-        Refusal::Full => 8,
-        Refusal::Absent => 9,
-        Refusal::Label => 10,
-        Refusal::Tag => 12,
-        Refusal::Room => 13,
-        Refusal::Mark => 14,
-        Refusal::Length => 15,
-        Refusal::Book => 16,
+impl Refusal {
+    // The number that the table gives it.
+    // A match: 11 and 17 are no cases, so no discriminant would read better.
+    pub fn number(self) -> u8
+        ensures { result ≡ number_of self }
+    {
+        match self {
+            Refusal::Size => 1,
+            Refusal::Layout => 2,
+            Refusal::Zero => 3,
+            Refusal::Place => 4,
+            Refusal::Field => 5,
+            Refusal::Wide => 6,
+            Refusal::Stands => 7,
+            Refusal::Full => 8,
+            Refusal::Absent => 9,
+            Refusal::Label => 10,
+            Refusal::Tag => 12,
+            Refusal::Room => 13,
+            Refusal::Mark => 14,
+            Refusal::Length => 15,
+            Refusal::Book => 16,
+        }
     }
-}
-
-// Two tests as one.
-pub fn both(a: bool, b: bool) -> bool
-    ensures { result ≡ (a && b) }
-{
-    a && b
-}
-
-pub fn either(a: bool, b: bool) -> bool
-    ensures { result ≡ (a || b) }
-{
-    a || b
 }

@@ -1,4 +1,4 @@
-// Document 01, 'Numbers handed back': the entries tag to steps, steps to tag, and normal form of a tag.
+// docs/RULES.md, 'Entries': the entries tag to steps, steps to tag, and normal form of a tag.
 #![tactic(auto)]
 
 mod normal; // normal.rt: the normal form of a tag

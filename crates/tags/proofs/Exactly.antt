@@ -1,5 +1,6 @@
--- What each entry answers, exactly: its checks in 01's order, when the line of each holds, when it accepts and with what, and what is
--- left in the lent memory.
+-- What each entry answers, exactly: its checks in the order of docs/RULES.md, when the line of each holds, when it accepts and with
+-- what, and what is left in the lent memory.
+use Rattle.std.specs.Prelude.{Ok, Err}
 use mathlib.Core.Path.{◌≡◌, refl, sym, ap, ◌∙◌}
 use mathlib.Core.Bool.{Bool, true, false, ◌||◌, true≢false}
 use mathlib.Core.List.{List, [], ◌∷◌, ◌++◌}
@@ -11,7 +12,7 @@ use lib.ListN.{length, take, drop, get_or, get_or-append}
 use lib.Seq.{length-take-le, get_or-append-add, get_or-drop}
 use Rattle.table.specs.declared.Refusal.{Refusal}
 use Rattle.table.specs.Numbers.{number_of}
-use Rattle.table.specs.Reply.{Reply.accepted, refused, Numbered, answer_says}
+use Rattle.table.specs.Reply.{Reply.accepted, refused, Numbered, answer_says, Answer}
 use Rattle.table.specs.Checks.{Given, Passed, Passed.none, Passed.passes, numbers, ◌when◌, ◌below◌}
 use Rattle.table.proofs.Numbers.{above_zero}
 use Rattle.table.proofs.Checks.{given_refuses, passed_accepts, given_or_passed, accepted_passed, accepted_says, passed_nth, one_of, neither_of, zero_one}
@@ -22,17 +23,15 @@ use Rattle.fabric.proofs.Tests.{outside_exactly, some_stages, few_stages}
 use Rattle.scheme.specs.Tags.{tags, steps_of, normal_tag, IsNormal}
 use Rattle.scheme.proofs.Steps.{steps_of_tag}
 use Rattle.scheme.proofs.NormalTags.{normal_tag_is, normal_tag_only}
-use Rattle.table.specs.declared.Answer.{Answer}
-use Rattle.tags.specs.declared.Tag.{Tag}
-use Rattle.tags.specs.Entries.{tag_says, some_above_two, tag_to_steps_checks, TagToSteps, steps_to_tag_checks, StepsToTag, normal_form_checks, NormalForm}
+use Rattle.tags.specs.Entries.{tag_says, some_above_two, tag_to_steps_checks, TagToSteps, steps_to_tag_checks, StepsToTag, normal_form_checks, NormalForm, Tag}
 use Rattle.tags.proofs.Entries.{codes_pass, pass_codes, wrote}
 
 -- an answer that refuses has a number of the table
 pub tag_numbered : (a : Tag) → Numbered (tag_says a)
-tag_numbered (Tag.Normal t) = tt
-tag_numbered (Tag.Refused r) = above_zero r
+tag_numbered (Ok t) = tt
+tag_numbered (Err r) = above_zero r
 
--- "a code above 2" among the first n bytes
+-- "a code that is not 0, 1 or 2" among the first n bytes
 pub some_above_exactly : (n : ℕ) (m : List ℕ) → (some_above_two (take n m) ≡ true) ↔ ((k : ℕ) × (k < n) × (2 < get_or m k 0))
 some_above_exactly n m = (told n m, λ w. back n m w.0 w.1 w.2)
   where
@@ -60,7 +59,7 @@ some_above_exactly n m = (told n m, λ w. back n m w.0 w.1 w.2)
 sizes_pass : (n : ℕ) → 1 ≤ n → n ≤ 12 → outside_sizes n ≡ false
 sizes_pass n h l = neither_of (n below 1) (12 below n) (le-ltb n 1 h) (le-ltb 12 n l)
 
--- "tag to steps (n, source, tag, memory): 1, 10, 12, 13"
+-- "Tag to steps (n, source, tag, memory): 1, 10, 12, 13"
 module _ (n s tag : ℕ) (lent : List ℕ) where
   pub tag_to_steps_order : numbers (tag_to_steps_checks n s tag lent) ≡ 1 ∷ 10 ∷ 12 ∷ 13 ∷ []
   tag_to_steps_order = refl
@@ -88,8 +87,8 @@ module _ (n s tag : ℕ) (lent : List ℕ) where
             passes (sizes_pass n w.0 w.1)
             (passes (lt-leb (size n) s w.2) (passes (lt-leb (tags n) tag w.3) (passes (le-ltb (length lent) n w.4) none)))
 
-  -- "The lent memory is then untouched"
-  pub refused_untouched : (left : List ℕ) (r : Refusal) → TagToSteps n s tag lent (Answer.Refused r) left → left ≡ lent
+  -- "On a refusal no byte of lent memory is written"
+  pub refused_untouched : (left : List ℕ) (r : Refusal) → TagToSteps n s tag lent (Err r) left → left ≡ lent
   refused_untouched left r promised = go (given_or_passed (tag_to_steps_checks n s tag lent))
     where
       go : ((k : ℕ) × Given k (tag_to_steps_checks n s tag lent)) ⊎ Passed (tag_to_steps_checks n s tag lent) → left ≡ lent
@@ -98,8 +97,8 @@ module _ (n s tag : ℕ) (lent : List ℕ) where
           let e : refused (number_of r) ≡ accepted [] = promised.says ∙ passed_accepts refused (accepted []) (tag_to_steps_checks n s tag lent) p in
           absurd (zero_one cc)
 
-  -- "It writes n bytes at the front", the codes of the steps, and every other byte stays
-  module _ (left : List ℕ) (done : TagToSteps n s tag lent Answer.Done left) where
+  -- "The first n bytes of the memory are written", the codes of the steps, and every other byte stays
+  module _ (left : List ℕ) (done : TagToSteps n s tag lent (Ok tt) left) where
     pub front_written : (k : ℕ) → k < n → get_or left k 0 ≡ get_or (steps_of n s tag) k 0
     front_written k h =
         let l = (steps_of_tag n s tag).stages in
@@ -114,7 +113,7 @@ module _ (n s tag : ℕ) (lent : List ℕ) where
         ∙ get_or-drop n lent (k - n) 0
         ∙ ap (λ (x : ℕ). get_or lent x 0) {x = n + (k - n)} {y = k} (omega arith)
 
--- "steps to tag (n, source, memory): 1, 10, 13, 12"
+-- "Steps to tag (n, source, memory): 1, 10, 13, 12"
 module _ (n s : ℕ) (lent : List ℕ) where
   pub steps_to_tag_order : numbers (steps_to_tag_checks n s lent) ≡ 1 ∷ 10 ∷ 13 ∷ 12 ∷ []
   steps_to_tag_order = refl
@@ -150,7 +149,7 @@ module _ (n s : ℕ) (lent : List ℕ) where
           (passes (sizes_pass n w.0 w.1) (passes (lt-leb (size n) s w.2) (passes (le-ltb (length lent) n w.3) (passes (codes_pass (take n lent) w.4) none))))
           ∙ ap (λ (x : ℕ). accepted (x ∷ [])) (sym (normal_tag_only n s w.2 (take n lent) t w.5))
 
--- "normal form of a tag (n, source, tag): 1, 10, 12"
+-- "Normal form (n, source, tag): 1, 10, 12"
 module _ (n s tag : ℕ) where
   pub normal_form_order : numbers (normal_form_checks n s tag) ≡ 1 ∷ 10 ∷ 12 ∷ []
   normal_form_order = refl

@@ -1,11 +1,2 @@
-// Document 01, 'Numbers handed back': what the entries tag to steps, steps to tag, and normal form of a tag answer.
+// docs/RULES.md, 'Entries': what the entries tag to steps, steps to tag, and normal form of a tag answer is defined in specs/; there is no code here.
 #![tactic(auto)]
-
-use table::Refusal;
-
-// What steps to tag and the normal form of a tag answer.
-#[derive(Clone, Copy)]
-pub enum Tag {
-    Normal(u32),
-    Refused(Refusal),
-}

@@ -20,13 +20,13 @@ loop-i-preserved c =
     let a = c.args in
     let v = c.loop-i in
     let w = v.invariant in
-    let l = (steps_of_tag a.n a.source a.tag).stages in
-    let on = step_on a.n a.source a.tag v.i v.j _ (omega arith) w.3 c.step_of-code.ensures.0 in (
+    let l = (steps_of_tag a.fabric.n a.source a.tag).stages in
+    let on = step_on a.fabric.n a.source a.tag v.i v.j _ (omega arith) w.3 c.step_of-code.ensures.0 in (
       omega arith,
       w.1,
       c.landing-j.ensures.1,
       c.landing-j.ensures.0 ∙ on.1,
-      rw (w.4, on.0) (front_more (steps_of a.n a.source a.tag) a.memory.now 0 v.i (omega arith) (omega arith)),
+      rw (w.4, on.0) (front_more (steps_of a.fabric.n a.source a.tag) a.memory.now 0 v.i (omega arith) (omega arith)),
       length-set v.memory v.i _ ∙ w.5,
     )
 
@@ -34,7 +34,7 @@ pub returns : goal.returns
 returns c =
     let a = c.args in
     let v = c.loop-i in
-    let p : List ℕ = steps_of a.n a.source a.tag in
-    let e : v.i ≡ a.n = omega arith in
-    let l : length p ≤ a.n = let q = (steps_of_tag a.n a.source a.tag).stages in omega arith in
-    v.invariant.4 ∙ ap (λ (k : ℕ). take k p ++ drop k a.memory.now) e ∙ ap (λ (x : List ℕ). x ++ drop a.n a.memory.now) (take_all a.n p l)
+    let p : List ℕ = steps_of a.fabric.n a.source a.tag in
+    let e : v.i ≡ a.fabric.n = omega arith in
+    let l : length p ≤ a.fabric.n = let q = (steps_of_tag a.fabric.n a.source a.tag).stages in omega arith in
+    v.invariant.4 ∙ ap (λ (k : ℕ). take k p ++ drop k a.memory.now) e ∙ ap (λ (x : List ℕ). x ++ drop a.fabric.n a.memory.now) (take_all a.fabric.n p l)
