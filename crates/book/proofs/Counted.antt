@@ -1,4 +1,4 @@
--- Document 02, §5: which standing notices a route counts, and what these stop.
+-- docs/RULES.md, 'Classes': which standing notices a route counts, and what these stop.
 use mathlib.Core.Path.{◌≡◌, sym, ap, subst, ◌∙◌}
 use mathlib.Core.Bool.{true}
 use mathlib.Core.List.{Memᴰ}
@@ -26,11 +26,11 @@ pub class_held : (b : Book) → Sound b → (x : Notice) → Memᴰ x (standing 
 class_held b sound x stands = fit_class b.n x (none_bad (unfit b.n) 0 (standing b) x sound.filed stands)
 
 module _ (b : Book) where
-  -- "class 0 there means all notices count"
+  -- "0, and all notices count"
   pub all_counted_stand : counted 0 b ≡ standing b
   all_counted_stand = those_all (counts 0) (standing b) (λ x m. all_counted x)
 
-  -- "and 1 means broken only"
+  -- "1, and the broken ones alone do"
   pub broken_counted_stand : (x : Notice) → Memᴰ x (counted 1 b) ↔ (Memᴰ x (standing b) × (x.class ≡ 0))
   broken_counted_stand x =
       let o = those_exactly (counts 1) x (standing b) in
@@ -73,7 +73,7 @@ module _ (b : Book) where
       ap (those (counts choice)) (standing_of b.n (counted 1 b))
       ∙ those_all (counts choice) (counted 1 b) (λ x m. broken_always x choice ((broken_counted_stand x).0 m).1)
 
-  -- "stopped by a counted notice": a standing one that is counted and names the link, and the lowest number of these
+  -- "stopped by a notice that counts": a standing one that is counted and names the link, and the lowest number of these
   pub counted_exactly : (choice i j c k : ℕ) → Sound b
       → LowestNumber (λ x. StopsLink b.n (standing b) i j c x × (counts choice x ≡ true)) k ↔ ((counted_stops choice b i j c ≡ k) × (1 ≤ k))
   counted_exactly choice i j c k sound =

@@ -1,5 +1,6 @@
 -- What the entries' definitions say: the order of each entry's checks and what passes them, what the answers say, and which book
 -- is handed back.
+use Rattle.std.specs.Prelude.{Ok, Err}
 use mathlib.Core.Path.{◌≡◌, refl, sym, ap, ◌∙◌}
 use mathlib.Core.Bool.{Bool, true, false, not, true≢false}
 use mathlib.Core.List.{List, [], ◌∷◌, Memᴰ}
@@ -19,7 +20,6 @@ use Rattle.notices.specs.Notices.{outside_fabric, bad_field, too_wide, unfit}
 use Rattle.notices.proofs.Fit.{all_pass}
 use Rattle.book.specs.declared.Book.{Book}
 use Rattle.book.specs.declared.Kept.{Kept}
-use Rattle.table.specs.declared.Answer.{Answer}
 use Rattle.standing.specs.Rising.{stands, insert, without}
 use Rattle.book.specs.Standing.{standing, unsound, Sound, Stopped, stops_of}
 use Rattle.book.specs.Entries.{HandsBack, open_checks, opened, Opens, book_checks, file_checks, filed, Files, withdraw_checks, withdrawn, Withdraws}
@@ -52,11 +52,11 @@ number_free k l h = go (stands k l) refl
 number_stands : (k : ℕ) (l : List Notice) → HasNumber k l → stands k l ≡ true
 number_stands k l w = ap (λ (m : ℕ). stands m l) (sym w.2) ∙ member_stands w.0 l w.1
 
--- "open (n): 1"
+-- "Open (n): 1"
 pub open_order : (n : ℕ) → numbers (open_checks n) ≡ 1 ∷ []
 open_order n = refl
 
--- 1: "n outside 1 to 12"
+-- 1: "n is 0 or above 12"
 pub open_lets_pass : (n : ℕ) → Passed (open_checks n) ↔ ((1 ≤ n) × (n ≤ 12))
 open_lets_pass n = (
   (λ p. let w = neither (n below 1) (12 below n) (passed_nth (open_checks n) 0 p) in (ltb-false n 1 w.0, ltb-false 12 n w.1)),
@@ -64,11 +64,11 @@ open_lets_pass n = (
 )
 
 module _ (b : Book) (x : Notice) where
-  -- "file: 16, 3, 4, 5, 6, 7, 8."
+  -- "File (book, notice): 16, 3, 4, 5, 6, 7, 8."
   pub file_order : numbers (file_checks b x) ≡ 16 ∷ 3 ∷ 4 ∷ 5 ∷ 6 ∷ 7 ∷ 8 ∷ []
   file_order = refl
 
-  -- 3: "notice number 0"; 4, 5 and 6 as a notice's target is judged; 7: "number already stands"; 8: "48 stand already"
+  -- 3: "the number of the notice is 0"; 4, 5 and 6 as a notice's target is judged; 7: "the number stands already"; 8: "48 notices stand"
   pub file_lets_pass : Passed (file_checks b x)
       ↔ ((unsound b ≡ false) × (1 ≤ x.number) × (outside_fabric b.n x ≡ false) × (bad_field b.n x ≡ false) × (too_wide x ≡ false)
       × (HasNumber x.number (standing b) → ⊥) × (length (standing b) < 48))
@@ -112,11 +112,11 @@ pub book_lets_pass : (b : Book) → Passed (book_checks b) ↔ (unsound b ≡ fa
 book_lets_pass b = ((λ p. passed_nth (book_checks b) 0 p), (λ e. passes e none))
 
 module _ (b : Book) (k : ℕ) where
-  -- "withdraw: 16, 3, 9."
+  -- "Withdraw (book, number): 16, 3, 9."
   pub withdraw_order : numbers (withdraw_checks b k) ≡ 16 ∷ 3 ∷ 9 ∷ []
   withdraw_order = refl
 
-  -- 9: "number does not stand"
+  -- 9: "no notice of this number stands"
   pub withdraw_lets_pass : Passed (withdraw_checks b k) ↔ ((unsound b ≡ false) × (1 ≤ k) × HasNumber k (standing b))
   withdraw_lets_pass = (
     (λ p.
@@ -125,41 +125,41 @@ module _ (b : Book) (k : ℕ) where
     (λ w. let some = w.1 in passes w.0 (passes (ne_eqb k 0 (λ e. omega arith)) (passes (ap not (number_stands k (standing b) w.2)) none))),
   )
 
--- "Each hands the book back with its answer."
+-- "Both changes give the book back beside the answer."
 module _ (checks : List Check) (given made : Book) (r : Kept) (kept : HandsBack checks given made r) where
   -- accepted exactly when every check is passed, and then with the book that the change makes
   pub done_exactly : (answer_says r.answer ≡ Reply.accepted []) ↔ Passed checks
   done_exactly = ((λ e. accepted_passed checks [] [] (sym e ∙ kept.says)), (λ p. kept.says ∙ passed_accepts refused (Reply.accepted []) checks p))
 
-  pub done_hands_back : r.answer ≡ Answer.Done → r.book ≡ made
+  pub done_hands_back : r.answer ≡ Ok tt → r.book ≡ made
   done_hands_back e = kept.leaves ∙ passed_accepts (λ k. given) made checks (done_exactly.0 (ap answer_says e))
 
   -- refused with a number that the checks give, and then with the book that is known beforehand
-  pub refused_by : (why : Refusal) → r.answer ≡ Answer.Refused why → Given (number_of why) checks
+  pub refused_by : (why : Refusal) → r.answer ≡ Err why → Given (number_of why) checks
   refused_by why e = refused_given checks [] (number_of why) (sym (ap answer_says e) ∙ kept.says)
 
-  pub refused_hands_back : (why : Refusal) → r.answer ≡ Answer.Refused why → r.book ≡ given
+  pub refused_hands_back : (why : Refusal) → r.answer ≡ Err why → r.book ≡ given
   refused_hands_back why e = kept.leaves ∙ given_refuses (λ k. given) made (number_of why) checks (refused_by why e)
 
--- "a change that was refused hands the book back as given"
-pub refused_filing_keeps : (b : Book) (x : Notice) (r : Kept) (why : Refusal) → Files b x r → r.answer ≡ Answer.Refused why → r.book ≡ b
+-- "a refused change gives the book back unchanged"
+pub refused_filing_keeps : (b : Book) (x : Notice) (r : Kept) (why : Refusal) → Files b x r → r.answer ≡ Err why → r.book ≡ b
 refused_filing_keeps b x r why p e = refused_hands_back _ _ _ r p why e
 
-pub refused_withdrawing_keeps : (b : Book) (k : ℕ) (r : Kept) (why : Refusal) → Withdraws b k r → r.answer ≡ Answer.Refused why → r.book ≡ b
+pub refused_withdrawing_keeps : (b : Book) (k : ℕ) (r : Kept) (why : Refusal) → Withdraws b k r → r.answer ≡ Err why → r.book ≡ b
 refused_withdrawing_keeps b k r why p e = refused_hands_back _ _ _ r p why e
 
--- "handing back a book of size 0 with no notices"
-pub refused_opening_is_empty : (n : ℕ) (r : Kept) (why : Refusal) → Opens n r → r.answer ≡ Answer.Refused why → (r.book.n ≡ 0) × (standing r.book ≡ [])
+-- "hands back a book of size 0 without notices"
+pub refused_opening_is_empty : (n : ℕ) (r : Kept) (why : Refusal) → Opens n r → r.answer ≡ Err why → (r.book.n ≡ 0) × (standing r.book ≡ [])
 refused_opening_is_empty n r why p e = let k = refused_hands_back _ _ _ r p why e in (ap (λ (b : Book). b.n) k, ap standing k)
 
--- "which every entry over a book answers with 16"
+-- "to which every entry over a book says 16"
 pub refused_opening_sixteen : (n : ℕ) (x : Notice) (k : ℕ) → outside_sizes n ≡ true → Given 16 (file_checks (opened n) x) × Given 16 (withdraw_checks (opened n) k)
 refused_opening_sixteen n x k size =
     let u : unsound (opened n) ≡ true = rw size in
     (here u refl, here u refl)
 
--- "otherwise an empty book of size n"
-pub opening_is_empty : (n : ℕ) (r : Kept) → Opens n r → r.answer ≡ Answer.Done → (r.book.n ≡ n) × (standing r.book ≡ [])
+-- "Otherwise it hands back an empty book of size n"
+pub opening_is_empty : (n : ℕ) (r : Kept) → Opens n r → r.answer ≡ Ok tt → (r.book.n ≡ n) × (standing r.book ≡ [])
 opening_is_empty n r p e = let k = done_hands_back _ _ _ r p e in (ap (λ (b : Book). b.n) k, ap standing k)
 
 -- which links a book stops: those that a standing notice names

@@ -2,7 +2,7 @@
 use mathlib.Core.Path.{◌≡◌, ap, ◌∙◌}
 use mathlib.Core.Bool.{false, ◌||◌}
 use mathlib.Core.List.{List, ◌++◌}
-use Prim.Native.Nat.{ℕ, ◌-◌, ◌<◌}
+use Prim.Native.Nat.{ℕ, ◌-◌, ◌≤◌, ◌<◌}
 use native.Mathlib.Omega.{arith}
 use borrow.Author.Tests.{ltb-false, le-ltb}
 use lib.ListN.{length, get_or, replicate, length-drop}
@@ -16,7 +16,7 @@ use Rattle.standing.proofs.Filings.{filed_if, filed_passes, unlittered, filler_u
 use Rattle.book.specs.declared.Book.{Book}
 use Rattle.notices.specs.declared.Notice.{Notice}
 use Rattle.notices.specs.Notices.{unfit}
-use Rattle.standing.specs.Rising.{filler, misfiled, littered}
+use Rattle.standing.specs.Rising.{filler, Filed, misfiled, littered}
 use Rattle.book.specs.Standing.{standing, unused, book_of, unsound, Sound}
 
 -- the notices of a list stand in the book that is made of them
@@ -54,6 +54,19 @@ sound_passes b s =
     (filed_passes (unfit b.n) 0 (standing b) s.filed))
     (ap littered s.rest ∙ filler_unlittered (48 - b.count))
 
+-- the book of notices as filing leaves them passes the test of 16
+pub sound_of : (n : ℕ) (l : List Notice) → outside_sizes n ≡ false → Filed (unfit n) 0 l → length l ≤ 48 → unsound (book_of n l) ≡ false
+sound_of n l size f h =
+    neither_of (outside_sizes n || 48 below length l || misfiled (unfit n) 0 (standing (book_of n l))) (littered (unused (book_of n l)))
+    (neither_of (outside_sizes n || 48 below length l) (misfiled (unfit n) 0 (standing (book_of n l)))
+    (neither_of (outside_sizes n) (48 below length l) size (le-ltb 48 (length l) h))
+    (ap (misfiled (unfit n) 0) (standing_of n l) ∙ filed_passes (unfit n) 0 l f))
+    (ap littered (unused_of n l) ∙ filler_unlittered (48 - length l))
+
+-- the sizes of docs/RULES.md, as the test of them says
+pub size_passes : (n : ℕ) → 1 ≤ n → n ≤ 12 → outside_sizes n ≡ false
+size_passes n some few = neither_of _ _ (le-ltb n 1 some) (le-ltb 12 n few)
+
 -- as many stand as such a book counts
 pub length_standing : (b : Book) → Sound b → length b.notices ≡ 48 → length (standing b) ≡ b.count
 length_standing b sound full = let h = sound.fits in length-take-le b.count b.notices (omega arith)
@@ -62,7 +75,7 @@ length_standing b sound full = let h = sound.fits in length-take-le b.count b.no
 pub split : (b : Book) → Sound b → b.notices ≡ standing b ++ replicate (48 - b.count) filler
 split b sound = parted b.count b.notices sound.rest
 
--- "by rising number": in a book that passes, of two notices that stand the one at the later place has the higher number
+-- "the lowest number first": in a book that passes, of two notices that stand the one at the later place has the higher number
 pub listed_rising : (b : Book) → length b.notices ≡ 48 → unsound b ≡ false
     → (i j : ℕ) → i < j → j < b.count → (get_or b.notices i filler).number < (get_or b.notices j filler).number
 listed_rising b n e i j h k =

@@ -1,5 +1,6 @@
 -- what the functions' proofs lean on
 pub mod Filings
+pub mod Sounds
 pub mod Placing
 pub mod Answers
 -- what stops a link

@@ -7,7 +7,7 @@ use Rattle.table.specs.Checks.{Check}
 use Rattle.notices.specs.declared.Notice.{Notice}
 use Rattle.book.specs.declared.Book.{Book}
 use Rattle.book.specs.declared.Kept.{Kept}
-use Rattle.table.specs.declared.Answer.{Answer}
+use Rattle.table.specs.Reply.{Answer}
 use Rattle.book.specs.Entries.{HandsBack, Opens, Files, Withdraws}
 
 hands_back_once : (checks : List Check) (given made : Book) (q r : Kept) → HandsBack checks given made q → HandsBack checks given made r → q ≡ r

@@ -1,5 +1,6 @@
 -- What stops a link: the stopper is 0 exactly where no standing notice names the link, and otherwise the lowest number of
--- one that does. "Several may name one link." It is so of any test of a notice (standing, proofs/Lowest).
+-- one that does. "A link may be named by more than one notice." It is so of any test of a notice (standing,
+-- proofs/Lowest).
 use mathlib.Core.Path.{◌≡◌}
 use mathlib.Core.Bool.{Bool, true}
 use mathlib.Core.List.{List, Memᴰ}

@@ -1,4 +1,4 @@
--- Document 01, 'Numbers handed back': the entries that hand a book back, their order of checks, and what each hands back.
+-- docs/RULES.md, 'Entries': the entries that hand a book back, their order of checks, and what each hands back.
 use Rattle.std.specs.Prelude.{◌≡◌, not, List, [], ◌∷◌, ◌++◌, ℕ, eqb, length}
 use Rattle.table.specs.Reply.{Reply, refused, answer_says}
 use Rattle.table.specs.Checks.{Check, ◌when◌, ◌not_below◌, checked}
@@ -12,15 +12,16 @@ use Rattle.standing.specs.Rising.{stands, insert, without}
 
 -- The theorems named here stand in proofs/Entries.antt.
 
--- "Each hands the book back with its answer." The checks decide both: where one refuses, the book is one that is known
--- beforehand ("a change that was refused hands the book back as given"), otherwise the book that the change makes: `refused_hands_back`,
--- `done_hands_back`; `refused_filing_keeps` and `refused_withdrawing_keeps` are 01's sentence.
+-- "Both changes give the book back beside the answer." The checks decide both: where one refuses, the book is one that is known
+-- beforehand ("a refused change gives the book back unchanged"), otherwise the book that the change makes: `refused_hands_back`,
+-- `done_hands_back`; `refused_filing_keeps` and `refused_withdrawing_keeps` are the sentence of docs/RULES.md.
 pub record HandsBack (checks : List Check) (given made : Book) (r : Kept) : Type 0 where
   pub says : answer_says r.answer ≡ checked checks refused (Reply.accepted [])
   pub leaves : r.book ≡ checked checks (λ k. given) made
 
--- "open (n): 1, handing back a book of size 0 with no notices, which every entry over a book answers with 16; otherwise an
--- empty book of size n.": `open_order`, `open_lets_pass`; `refused_opening_is_empty`, `refused_opening_sixteen`, `opening_is_empty`
+-- "Open (n): 1. It then hands back a book of size 0 without notices, to which every entry over a book says 16. Otherwise it hands
+-- back an empty book of size n.": `open_order`, `open_lets_pass`; `refused_opening_is_empty`, `refused_opening_sixteen`,
+-- `opening_is_empty`
 abbrev pub open_checks : ℕ → List Check
 open_checks n = (1 when outside_sizes n) ∷ []
 
@@ -34,7 +35,7 @@ Opens n r = HandsBack (open_checks n) (book_of 0 []) (book_of n []) r
 abbrev pub book_checks : Book → List Check
 book_checks b = (16 when unsound b) ∷ []
 
--- "file: 16, 3, 4, 5, 6, 7, 8.": `file_order`, `file_lets_pass`, `seven_though_full`, `eight_when_full`
+-- "File (book, notice): 16, 3, 4, 5, 6, 7, 8.": `file_order`, `file_lets_pass`, `seven_though_full`, `eight_when_full`
 abbrev pub file_checks : Book → Notice → List Check
 file_checks b x =
     book_checks b
@@ -46,7 +47,7 @@ file_checks b x =
     ∷ (8 when length (standing b) not_below 48)
     ∷ []
 
--- "withdraw: 16, 3, 9.": `withdraw_order`, `withdraw_lets_pass`
+-- "Withdraw (book, number): 16, 3, 9.": `withdraw_order`, `withdraw_lets_pass`
 abbrev pub withdraw_checks : Book → ℕ → List Check
 withdraw_checks b k = book_checks b ++ (3 when eqb k 0) ∷ (9 when not (stands k (standing b))) ∷ []
 

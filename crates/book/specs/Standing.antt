@@ -1,4 +1,4 @@
--- Document 01, 'Notices', and document 02, §5: what stands in a book, and what stops a link.
+-- docs/RULES.md, 'The book' and 'Classes': what stands in a book, and what stops a link.
 use Rattle.std.specs.Prelude.{◌≡◌, Bool, ◌||◌, List, ℕ, ◌-◌, ◌≤◌, length, take, drop, replicate}
 use Rattle.table.specs.Checks.{◌below◌}
 use Rattle.fabric.specs.Labels.{outside_sizes}
@@ -17,12 +17,12 @@ standing b = take b.count b.notices
 abbrev pub unused : Book → List Notice
 unused b = drop b.count b.notices
 
--- The book of a fabric of n stages in which the notices of a list stand (`standing_of`, proofs/Filings.antt). "At most 48 notices": `run_at_most_48`
--- (changes/proofs/Since.antt).
+-- The book of a fabric of n stages in which the notices of a list stand (`standing_of`, proofs/Filings.antt). "A book has room for 48 notices":
+-- `run_at_most_48` (changes/proofs/Since.antt).
 abbrev pub book_of : ℕ → List Notice → Book
 book_of n l = record { n = n; count = length l; notices = in_places l }
 
--- The test behind 16, "a book that an accepted opening, filing and withdrawing cannot produce": `reachable_sound` and
+-- The test behind 16, "a book to which no accepted opening, filings and withdrawals lead": `reachable_sound` and
 -- `sound_reachable` (changes/proofs/Reach.antt) say that it is that sentence exactly.
 abbrev pub unsound : Book → Bool
 unsound b = outside_sizes b.n || 48 below b.count || misfiled (unfit b.n) 0 (standing b) || littered (unused b)
@@ -53,12 +53,13 @@ stopper n l i j c = lowest (λ x. names n x i j c) l
 abbrev pub stops_of : Book → ℕ → ℕ → ℕ → ℕ
 stops_of b i j c = stopper b.n (standing b) i j c
 
--- Document 02, §5: the notices that a route of this choice counts, all of those that stand or the broken ones only: `all_counted_stand` and `broken_counted_stand`
--- (proofs/Counted.antt)
+-- docs/RULES.md, 'Classes': the notices that a route of this choice counts, all of those that stand or the broken ones only: `all_counted_stand` and
+-- `broken_counted_stand` (proofs/Counted.antt)
 abbrev pub counted : ℕ → Book → List Notice
 counted choice b = those (counts choice) (standing b)
 
--- "stopped by a counted notice": which links these stop, and the lowest number that does. `counted_exactly` (proofs/Counted.antt). `clear_since`
--- (promises/proofs/Clearness.antt) says that these are the links that the counted ones among the notices accepted and not withdrawn since name.
+-- "stopped by a notice that counts": which links these stop, and the lowest number that does. `counted_exactly` (proofs/Counted.antt).
+-- `clear_since` (promises/proofs/Clearness.antt) says that these are the links that the counted ones among the notices accepted and not
+-- withdrawn since name.
 abbrev pub counted_stops : ℕ → Book → ℕ → ℕ → ℕ → ℕ
 counted_stops choice b i j c = stopper b.n (counted choice b) i j c

@@ -1,4 +1,4 @@
--- What the class of a notice says, in document 02's own terms.
+-- What the class of a notice says, in the terms of docs/RULES.md.
 use mathlib.Core.Path.{◌≡◌, refl}
 use mathlib.Core.Bool.{Bool, true, false, ◌||◌}
 use mathlib.Core.Logic.{◌↔◌}
@@ -8,23 +8,23 @@ use borrow.Author.Tests.{le-ltb, ltb-false, eqb-true, eq-eqb}
 use Rattle.notices.specs.declared.Notice.{Notice}
 use Rattle.notices.specs.Classes.{bad_class, broken, busy, counts}
 
--- "a class above 1": 0 and 1 are let pass
+-- "a class of 2 or more": 0 and 1 are let pass
 pub class_within : (class : ℕ) → (bad_class class ≡ false) ↔ (class ≤ 1)
 class_within class = ((λ e. ltb-false 1 class e), (λ h. le-ltb 1 class h))
 
 module _ (x : Notice) where
-  -- "0 broken or 1 busy"
+  -- "0, broken, or 1, busy"
   pub broken_exactly : (broken x ≡ true) ↔ (x.class ≡ 0)
   broken_exactly = ((λ e. eqb-true x.class 0 e), (λ e. eq-eqb _ _ e))
 
   pub busy_exactly : (busy x ≡ true) ↔ (x.class ≡ 1)
   busy_exactly = ((λ e. eqb-true x.class 1 e), (λ e. eq-eqb _ _ e))
 
-  -- "class 0 there means all notices count"
+  -- "0, and all notices count"
   pub all_counted : counts 0 x ≡ true
   all_counted = refl
 
-  -- "and 1 means broken only"
+  -- "1, and the broken ones alone do"
   pub broken_counted : (counts 1 x ≡ true) ↔ (x.class ≡ 0)
   broken_counted = broken_exactly
 

@@ -162,7 +162,7 @@ module _ (n : ℕ) (x : Notice) (stage value mask s c : ℕ) (is : x.target ≡ 
       (size n)
       ∙ picked_is n value mask small inside
 
-  -- "A mask with fewer than two ones is too wide": such a pattern names half of the switches of its stage, or all
+  -- "A mask of no ones or of one is too wide": such a pattern names half of the switches of its stage, or all
   pub too_wide_names_half : too_wide x ≡ true → size n ≤ switches_named n x stage c * 2
   too_wide_names_half e =
       let o = ltb-true (ones mask) 2 (rw is at e) in
@@ -183,7 +183,7 @@ module _ (n : ℕ) (x : Notice) (stage value mask s c : ℕ) (is : x.target ≡ 
       let k = pattern_names_many in
       omega arith
 
--- "so at n = 1 no pattern is accepted"
+-- "With n = 1 there is no other, so every pattern is refused"
 pub one_stage_no_pattern : (x : Notice) (stage value mask s : ℕ) → x.target ≡ Pattern stage value mask s → unfit 1 x ≡ true
 one_stage_no_pattern x stage value mask s is = go (unfit 1 x) refl
   where

@@ -1,4 +1,4 @@
--- What filing asks of a notice of each target, in document 01's own terms: 4, 5 and 6, each exactly where its line holds.
+-- What filing asks of a notice of each target, in the terms of docs/RULES.md: 4, 5 and 6, each exactly where its line holds.
 use mathlib.Core.Path.{◌≡◌, refl, sym, ap, ◌∙◌}
 use mathlib.Core.Bool.{Bool, true, false, not, ◌||◌}
 use mathlib.Core.List.{[], ◌∷◌}
@@ -42,13 +42,13 @@ fields_pass n x =
     let p = class_within x.class in
     ((λ e. ((o.0 e).0, p.0 (o.0 e).1)), (λ w. o.1 (w.0, p.1 w.1)))
 
--- 5: "set outside 1 to 7"
+-- 5: "a set of 0 or above 7"
 pub set_within : (s : ℕ) → (bad_set s ≡ false) ↔ ((1 ≤ s) × (s ≤ 7))
 set_within s =
     let o = both_fail (s below 1) (7 below s) in
     ((λ e. (ltb-false s 1 (o.0 e).0, ltb-false 7 s (o.0 e).1)), (λ w. o.1 (le-ltb s 1 w.0, le-ltb 7 s w.1)))
 
--- "Mask bits lie below n": every one of the mask does
+-- "The mask's ones lie in the low n bits": every one of the mask does
 pub ones_below : (n mask : ℕ) → (mask < 2 ^ n) ↔ ((k : ℕ) → bit k mask ≡ 1 → k < n)
 ones_below n mask =
     let m = mask_below n mask in (
@@ -133,15 +133,15 @@ two_counted (suc j) (suc k) m l e f =
 pub two_ones : (mask : ℕ) → (2 ≤ ones mask) ↔ ((j : ℕ) × (k : ℕ) × (j < k) × (bit j mask ≡ 1) × (bit k mask ≡ 1))
 two_ones mask = ((λ h. two_found mask mask (below_power mask) h), (λ w. two_counted w.0 w.1 mask w.2 w.3 w.4))
 
--- "Links: stage 0 to n-1, switch, and a set (..; 1 to 7)"
+-- "Links, kind 1: a stage below n, a switch and a set. The set is a sum, of 1 for straight, 2 for plus and 4 for minus, and lies between 1 and 7"
 module _ (n : ℕ) (x : Notice) (stage switch s : ℕ) (is : x.target ≡ Links stage switch s) where
-  -- 4: "stage, column or switch outside the fabric"
+  -- 4: "a stage, column or switch that the fabric does not have"
   pub links_in_fabric : (outside_fabric n x ≡ false) ↔ ((stage < n) × (switch < 2 ^ n))
   links_in_fabric =
       let o = both_fail (stage not_below n) (switch not_below size n) in
       rw is ((λ e. (leb-false n stage (o.0 e).0, leb-false (size n) switch (o.0 e).1)), (λ w. o.1 (lt-leb n stage w.0, lt-leb (size n) switch w.1)))
 
-  -- 5: "set outside 1 to 7", or a class above 1
+  -- 5: "a set of 0 or above 7", or a class above 1
   pub links_in_fields : (bad_field n x ≡ false) ↔ ((1 ≤ s) × (s ≤ 7) × (x.class ≤ 1))
   links_in_fields =
       let two = fields_pass n x in
@@ -161,7 +161,7 @@ module _ (n : ℕ) (x : Notice) (stage switch s : ℕ) (is : x.target ≡ Links 
         (λ w. three.1 (f.1 (w.0, w.1), g.1 (w.2, w.3, w.4), links_narrow)),
       )
 
--- "Switch: column 0 to n and switch"
+-- "Switch, kind 2: a column from 0 to n, and a switch j"
 module _ (n : ℕ) (x : Notice) (column switch : ℕ) (is : x.target ≡ Switch column switch) where
   pub switch_in_fabric : (outside_fabric n x ≡ false) ↔ ((column ≤ n) × (switch < 2 ^ n))
   switch_in_fabric =
@@ -187,13 +187,14 @@ module _ (n : ℕ) (x : Notice) (column switch : ℕ) (is : x.target ≡ Switch 
         (λ w. three.1 (f.1 (w.0, w.1), g.1 w.2, switch_narrow)),
       )
 
--- "Pattern: stage, value, mask, set"; "Mask bits lie below n and the value has no one outside the mask"; two ones or more
+-- "Pattern, kind 3: a stage below n, a value, a mask and a set"; "The mask's ones lie in the low n bits, and the value has ones only where the mask has"; two
+-- ones or more
 module _ (n : ℕ) (x : Notice) (stage value mask s : ℕ) (is : x.target ≡ Pattern stage value mask s) where
-  -- "(a pattern's value is judged by 5 alone)"
+  -- "(the value of a pattern is left to 5)"
   pub pattern_in_fabric : (outside_fabric n x ≡ false) ↔ (stage < n)
   pattern_in_fabric = rw is ((λ e. leb-false n stage e), (λ h. lt-leb n stage h))
 
-  -- 5: "set outside 1 to 7, mask bit at n or above, value outside the mask"
+  -- 5: "a set of 0 or above 7, a one of the mask at bit n or higher, a value with a one outside of the mask"
   pattern_in_target : (target_bad n x.target ≡ false)
       ↔ ((1 ≤ s) × (s ≤ 7) × ((k : ℕ) → bit k mask ≡ 1 → k < n) × ((k : ℕ) → bit k value ≡ 1 → bit k mask ≡ 1))
   pattern_in_target =
@@ -218,7 +219,7 @@ module _ (n : ℕ) (x : Notice) (stage value mask s : ℕ) (is : x.target ≡ Pa
         (λ w. two.1 (within.1 (w.0, w.1, w.2, w.3), w.4)),
       )
 
-  -- 6: "A mask with fewer than two ones is too wide": it is not where two different places of the mask are ones
+  -- 6: "A mask of no ones or of one is too wide": it is not where two different places of the mask are ones
   pub pattern_narrow : (too_wide x ≡ false) ↔ ((j : ℕ) × (k : ℕ) × (j < k) × (bit j mask ≡ 1) × (bit k mask ≡ 1))
   pattern_narrow =
       let o = two_ones mask in
@@ -239,7 +240,7 @@ module _ (n : ℕ) (x : Notice) (stage value mask s : ℕ) (is : x.target ≡ Pa
         (λ w. three.1 (pattern_in_fabric.1 w.0, g.1 (w.1, w.2, w.3, w.4, w.5), pattern_narrow.1 w.6)),
       )
 
--- the filings of 01's example, n = 3: three notices that are accepted, and one that is refused with 6
+-- the filings of the worked example, n = 3: three notices that are accepted, and one that is refused with 6
 abbrev filing : ℕ → Target → Notice
 filing k t = record { number = k; target = t; class = 0 }
 

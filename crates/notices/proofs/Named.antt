@@ -20,7 +20,7 @@ use Rattle.notices.specs.Targets.{set_has, Input, target_names}
 use Rattle.notices.specs.Notices.{names}
 use Rattle.table.proofs.Checks.{both_hold}
 
--- "Links: stage 0 to n-1, switch, and a set"
+-- "Links, kind 1: a stage below n, a switch and a set"
 pub links_names : (n : ℕ) (x : Notice) (stage switch s i j c : ℕ) → x.target ≡ Links stage switch s
     → (names n x i j c ≡ true) ↔ ((i ≡ stage) × (j ≡ switch) × (set_has s c ≡ true))
 links_names n x stage switch s i j c is =
@@ -31,7 +31,7 @@ links_names n x stage switch s i j c is =
       (λ w. o.1 (p.1 (eq-eqb i stage w.0, eq-eqb j switch w.1), w.2)),
     )
 
--- "plus and minus reach the same switch but are two links, stopped separately": at stage n-1 as at every other
+-- "plus and minus land on one switch. They are two links all the same, and each is stopped by itself": at stage n-1 as at every other
 pub stopped_separately : (n : ℕ) (x y : Notice) (stage switch : ℕ) → x.target ≡ Links stage switch 2 → y.target ≡ Links stage switch 4
     → (names n x stage switch 1 ≡ true)
     × (names n x stage switch 2 ≡ false)
@@ -42,7 +42,7 @@ stopped_separately n x y stage switch plus minus =
     let f = eq-eqb switch switch refl in
     (rw (plus, e, f), rw (plus, e, f), rw (minus, e, f), rw (minus, e, f))
 
--- 02, §3: "a switch notice in column 0 stops the three output links of that switch at stage 0"
+-- docs/RULES.md, 'Notices': "In column 0, where no link ends, it names the three links of stage 0 that leave the switch"
 pub column_0_names_outputs : (n : ℕ) (x : Notice) (w i j c : ℕ) → x.target ≡ Switch 0 w → (names n x i j c ≡ true) ↔ ((i ≡ 0) × (j ≡ w))
 column_0_names_outputs n x w i j c is =
     let o = both_hold (eqb i 0) (eqb j w) in
@@ -59,7 +59,7 @@ column_0_as_links n w i j = each_code (λ c. target_names n (Switch 0 w) i j c �
     whole : (eqb i 0 && eqb j w) ≡ (eqb i 0 && eqb j w && true)
     whole = all (eqb i 0 && eqb j w)
 
--- "Other columns stay as they are.": before, this was what a switch notice of any column named
+-- "Only column 0 is treated so.": before, this was what a switch notice of any column named
 pub other_columns_as_before : (n : ℕ) (x : Notice) (column w i j c : ℕ) → x.target ≡ Switch column w → (column ≡ 0 → ⊥)
     → names n x i j c ≡ (eqb (i + 1) column && eqb (lands n i c j) w)
 other_columns_as_before n x column w i j c is above = rw (is, ne_eqb column 0 above)
@@ -88,7 +88,7 @@ pub switch_names_before : (n : ℕ) (x : Notice) (column w i j c : ℕ) → x.ta
 switch_names_before n x column w i j c is above e =
     eqb-true (i + 1) column ((both_hold (eqb (i + 1) column) (eqb (lands n i c j) w)).0 (rw (other_columns_as_before n x column w i j c is above) at e)).0
 
--- and it names the input links that 01 lists
+-- and it names the input links that docs/RULES.md lists
 module _ (n i w j : ℕ) (stage : i < n) (to : w < size n) (from : j < size n) where
   pub lands_inputs : (c : ℕ) → Code c → (lands n i c j ≡ w) ↔ Input n i w j c
   lands_inputs =
@@ -132,7 +132,7 @@ same_bits x y h =
     let s : 2 ^ y ≤ 2 ^ m = pow_mono (omega arith) in
     agree_below m x y (omega arith) (omega arith) (agree_by_bits m x y (λ k l. h k))
 
--- "the value has no one outside the mask"
+-- "the value has ones only where the mask has"
 pub value_in_mask : (value mask : ℕ) → (bit_and value mask ≡ value) ↔ ((k : ℕ) → bit k value ≡ 1 → bit k mask ≡ 1)
 value_in_mask value mask = (there, back)
   where
@@ -150,7 +150,7 @@ value_in_mask value mask = (there, back)
         at k (yes e) = let a = bit_of_and k value mask in let m = h k e in omega arith
         at k (no e) = let a = bit_of_and k value mask in let l = bit_lt k value in let z : bit k value ≡ 0 = omega arith in omega arith
 
--- "Mask bits lie below n"
+-- "The mask's ones lie in the low n bits"
 pub mask_below : (n mask : ℕ) → (mask < size n) ↔ ((k : ℕ) → n ≤ k → bit k mask ≡ 0)
 mask_below n mask = (there, back)
   where
@@ -175,7 +175,7 @@ mask_below n mask = (there, back)
         low : mask % 2 ^ n ≡ mask → mask < size n
         low e = let s = small in omega arith
 
--- "It names every switch whose bits under the mask equal the value."
+-- "It names the links of the set at every switch that has the value's bits where the mask has ones."
 pub under_mask : (value mask j : ℕ) → bit_and value mask ≡ value → (bit_and j mask ≡ value) ↔ ((k : ℕ) → bit k mask ≡ 1 → bit k j ≡ bit k value)
 under_mask value mask j within = (there, back)
   where

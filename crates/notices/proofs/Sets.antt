@@ -1,4 +1,4 @@
--- "a set (straight 1, plus 2, minus 4, added; 1 to 7)": which codes each of the seven sets has.
+-- "The set is a sum, of 1 for straight, 2 for plus and 4 for minus, and lies between 1 and 7": which codes each of the seven sets has.
 use mathlib.Core.Path.{◌≡◌, refl}
 use mathlib.Core.Bool.{Bool, true, false, cond}
 use mathlib.Core.List.{List, [], ◌∷◌}

@@ -1,4 +1,4 @@
--- Document 01, 'Notices' and 'Numbers handed back', and document 02, §5: which links a notice names, and when filing refuses it.
+-- docs/RULES.md, 'Notices', 'Numbers handed back' and 'Classes': which links a notice names, and when filing refuses it.
 use Rattle.std.specs.Prelude.{Bool, cond, ◌||◌, ℕ, zero, suc, ◌+◌}
 use Rattle.fabric.specs.Labels.{size}
 use Rattle.notices.specs.declared.Notice.{Notice}
@@ -8,8 +8,8 @@ use Rattle.notices.specs.Targets.{target_names, target_outside, target_bad, targ
 -- Whether a notice names the link of code c that leaves switch j at stage i of a fabric of n stages: where its target does.
 -- Links: `links_names` says it with equations.
 -- Switch: `column_0_names_outputs` says which links column 0 names, `column_0_as_links` that a links notice can name them too, and
--- `other_columns_as_before` that every other column names what 01 says: its three input links, `switch_names_inputs`, and none of another stage,
--- `switch_names_before`. There is no second meaning: `switch_names_once`.
+-- `other_columns_as_before` that every other column names what docs/RULES.md says: its three input links, `switch_names_inputs`, and none of
+-- another stage, `switch_names_before`. There is no second meaning: `switch_names_once`.
 -- Pattern: `pattern_names_exactly` says it bit by bit.
 -- All are in proofs/Named.
 abbrev pub names : ℕ → Notice → ℕ → ℕ → ℕ → Bool
@@ -19,8 +19,8 @@ names n x i j c = target_names n x.target i j c
 abbrev pub outside_fabric : ℕ → Notice → Bool
 outside_fabric n x = target_outside n x.target
 
--- 5, of the target, and document 02, §5: "a class above 1 .. is 5". `links_in_fields`, `switch_in_fields` and `pattern_in_fields` say by numbers and
--- bits when it is not given (proofs/Fit).
+-- 5, of the target, and docs/RULES.md, 'Classes': "Handed to an entry such a class is 5". `links_in_fields`, `switch_in_fields` and
+-- `pattern_in_fields` say by numbers and bits when it is not given (proofs/Fit).
 abbrev pub bad_field : ℕ → Notice → Bool
 bad_field n x = target_bad n x.target || bad_class x.class
 
@@ -29,8 +29,8 @@ bad_field n x = target_bad n x.target || bad_class x.class
 abbrev pub too_wide : Notice → Bool
 too_wide x = target_wide x.target
 
--- a notice that filing refuses for itself, by 4, 5 or 6. `links_fit`, `switch_fit` and `pattern_fit` list what 01 asks of each
--- target (proofs/Fit).
+-- a notice that filing refuses for itself, by 4, 5 or 6. `links_fit`, `switch_fit` and `pattern_fit` list what docs/RULES.md
+-- asks of each target (proofs/Fit).
 abbrev pub unfit : ℕ → Notice → Bool
 unfit n x = outside_fabric n x || bad_field n x || too_wide x
 

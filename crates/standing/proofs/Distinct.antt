@@ -1,4 +1,4 @@
--- "in any order": a list is distinct where no two of its places hold one notice, and it stays so in any other order.
+-- "in whatever order": a list is distinct where no two of its places hold one notice, and it stays so in any other order.
 use mathlib.Core.Path.{◌≡◌, refl, sym, ap, ◌∙◌}
 use mathlib.Core.List.Memᴰ
 use mathlib.Core.List.{List, [], ◌∷◌, Memᴰ}
@@ -89,7 +89,7 @@ two_alike d (y ∷ ys) (suc i) (suc j) h l e =
       (λ z w. ⊎_elim (λ q. Memᴰ.head q) (λ v. Memᴰ.tail (p.2 z v)) (Memᴰ.cases_cons w)),
     )
 
--- "in any order": the notices of a distinct list in another order are a distinct list
+-- "in whatever order": the notices of a distinct list in another order are a distinct list
 pub distinct_reordered : (l m : List Notice) → Distinct l → Reordered l m → Distinct m
 distinct_reordered l m u r =
     (distinct_places filler m).1 (λ i j h k e.

@@ -1,18 +1,21 @@
 -- The tests of notices by rising number, and of unused places; and the 48 places in which a list stands.
 use mathlib.Core.Path.{◌≡◌, refl, sym, ap, ap₂, ◌∙◌}
-use mathlib.Core.Bool.{Bool, true, false, not, ◌&&◌, true≢false}
+use mathlib.Core.Bool.{Bool, true, false, not, ◌&&◌, ◌||◌, true≢false}
 use mathlib.Core.List.{List, [], ◌∷◌}
-use Prim.Native.Nat.{ℕ, zero, suc, ◌-◌, ◌≤◌}
+use Prim.Native.Nat.{ℕ, zero, suc, ◌+◌, ◌-◌, ◌≤◌, ◌<◌}
 use native.Mathlib.Omega.{arith}
-use borrow.Author.Tests.{lt-leb, eqb-true, leb-false}
+use borrow.Author.Tests.{le-leb, lt-leb, eqb-true, leb-false}
 use lib.Dec.{eqb}
-use lib.ListN.{length, take, drop, replicate, length-append, length-replicate}
+use Rattle.std.proofs.lemmas.List.{drop_all}
+use lib.ListN.{length, get_or, take, drop, replicate, length-append, length-replicate}
 use lib.Seq.{take-append_seam, drop-append_seam}
+use Rattle.table.specs.Checks.{◌not_below◌}
 use Rattle.table.proofs.Checks.{neither, both_hold}
 use Rattle.notices.specs.declared.Notice.{Notice}
 use Rattle.notices.specs.declared.Target.{Target}
 use Rattle.notices.specs.declared.Target.TheVariants.{Links, Switch, Pattern}
 use Rattle.standing.specs.Rising.{filler, in_places, Filed, misfiled, is_filler, is_first_target, littered}
+use Rattle.standing.proofs.Reading.{next}
 
 -- `misfiled` decides `Filed`
 module _ (bad : Notice → Bool) where
@@ -28,6 +31,29 @@ module _ (bad : Notice → Bool) where
   unfolding misfiled Filed
   filed_passes k [] f = refl
   filed_passes k (x ∷ xs) f = rw (lt-leb x.number k f.0, f.1) (filed_passes _ xs f.2)
+
+  -- from the notice at place i on: it is misfiled, or it is not and the others tell
+  module _ (k : ℕ) (l : List Notice) (d : Notice) (i : ℕ) (h : i < length l) where
+    pub misfiled_number : (get_or l i d).number ≤ k → misfiled bad k (drop i l) ≡ true
+    unfolding misfiled
+    misfiled_number e = rw (next l d i h, le-leb _ _ e)
+
+    pub misfiled_bad : bad (get_or l i d) ≡ true → misfiled bad k (drop i l) ≡ true
+    unfolding misfiled
+    misfiled_bad e = rw (next l d i h, e) (either_way (k not_below (get_or l i d).number) _)
+      where
+        either_way : (b c : Bool) → (b || true || c) ≡ true
+        either_way true c = refl
+        either_way false c = refl
+
+    pub misfiled_next : k < (get_or l i d).number → bad (get_or l i d) ≡ false
+        → misfiled bad k (drop i l) ≡ misfiled bad (get_or l i d).number (drop (i + 1) l)
+    unfolding misfiled
+    misfiled_next g e = rw (next l d i h, lt-leb _ _ g, e)
+
+  pub misfiled_end : (k : ℕ) (l : List Notice) (i : ℕ) → length l ≤ i → misfiled bad k (drop i l) ≡ false
+  unfolding misfiled
+  misfiled_end k l i h = ap (misfiled bad k) (drop_all i l h)
 
 -- `littered` finds anything but the filler
 pub first_target : (t : Target) → is_first_target t ≡ true → t ≡ Links 0 0 0
@@ -48,7 +74,6 @@ filler_by_test x e =
     same k t q = ap₂ (λ (m : ℕ) (u : Target). record { number = m; target = u; class = x.class }) k t ∙ ap (λ (m : ℕ). record { number = 0; target = Links 0 0 0; class = m }) q
 
 pub unlittered : (l : List Notice) → littered l ≡ false → l ≡ replicate (length l) filler
-unfolding littered
 unlittered [] e = refl
 unlittered (x ∷ xs) e =
     let o = neither (not (is_filler x)) (littered xs) e in
@@ -59,7 +84,6 @@ unlittered (x ∷ xs) e =
     not_not false h = absurd (true≢false h)
 
 pub filler_unlittered : (n : ℕ) → littered (replicate n filler) ≡ false
-unfolding littered
 filler_unlittered zero = refl
 filler_unlittered (suc n) = filler_unlittered n
 

@@ -12,25 +12,22 @@ use lib.Dec.{eqb}
 use Rattle.notices.specs.declared.Notice.{Notice}
 use Rattle.standing.specs.Picked.{Picked, Some, LowestNumber, some, lowest}
 use Rattle.standing.specs.Rising.{Filed}
+use Rattle.standing.proofs.Picked.{lowest_cons}
 use Rattle.standing.proofs.Members.{all_above}
 
 module _ (test : Notice → Bool) where
   -- the first notice of a list is picked, or the number is one of the others'
   pub lowest_here : (x : Notice) (xs : List Notice) → test x ≡ true → lowest test (x ∷ xs) ≡ x.number
-  unfolding lowest
   lowest_here x xs e = rw e
 
   pub lowest_later : (x : Notice) (xs : List Notice) → test x ≡ false → lowest test (x ∷ xs) ≡ lowest test xs
-  unfolding lowest
   lowest_later x xs e = rw e
 
   pub lowest_nothing : lowest test [] ≡ 0
-  unfolding lowest
   lowest_nothing = refl
 
   -- a number other than 0 is that of a notice that is picked
   pub lowest_picks : (l : List Notice) → (lowest test l ≡ 0 → ⊥) → (x : Notice) × Memᴰ x l × (test x ≡ true) × (x.number ≡ lowest test l)
-  unfolding lowest
   lowest_picks [] h = absurd (h refl)
   lowest_picks (y ∷ ys) h = go (test y) refl (lowest_picks ys)
     where
@@ -45,7 +42,7 @@ module _ (test : Notice → Bool) where
   module _ (bad : Notice → Bool) where
     -- none that is picked has a lower number
     pub lowest_least : (m : ℕ) (l : List Notice) (x : Notice) → Filed bad m l → Memᴰ x l → test x ≡ true → (m < lowest test l) × (lowest test l ≤ x.number)
-    unfolding lowest Filed
+    unfolding Filed
     lowest_least m [] x f h e = absurd (Memᴰ.not-nil h)
     lowest_least m (y ∷ ys) x f h e = go (test y) refl (Memᴰ.cases_cons h) (lowest_least y.number ys x f.2)
       where
@@ -90,9 +87,9 @@ module _ (test : Notice → Bool) where
 
     -- the two tests agree
     pub lowest_tells : (k : ℕ) (l : List Notice) → Filed bad k l → not (eqb (lowest test l) 0) ≡ some test l
-    unfolding lowest some Filed
+    unfolding Filed
     lowest_tells k [] f = refl
-    lowest_tells k (x ∷ xs) f = go (test x) (lowest_tells x.number xs f.2)
+    lowest_tells k (x ∷ xs) f = ap (λ (m : ℕ). not (eqb m 0)) (lowest_cons test x xs) ∙ go (test x) (lowest_tells x.number xs f.2)
       where
         go : (b : Bool) → not (eqb (lowest test xs) 0) ≡ some test xs → not (eqb (cond b x.number (lowest test xs)) 0) ≡ (b || some test xs)
         go true ih = let h = f.0 in ap not (ne_eqb x.number 0 (λ e. omega arith))

@@ -12,7 +12,7 @@ use lib.ListN.{length, get_or}
 use Rattle.table.specs.Checks.{◌below◌}
 use Rattle.table.proofs.Checks.{unequal, equal}
 use Rattle.notices.specs.declared.Notice.{Notice}
-use Rattle.standing.specs.Picked.{some, those}
+use Rattle.standing.specs.Picked.{those}
 use Rattle.standing.specs.Rising.{numbered, other_than, stands, insert, without, Filed, Distinct}
 use Rattle.standing.proofs.Distinct.{place_of, at_place}
 use Rattle.standing.proofs.Picked.{some_exactly, none_exactly, those_exactly, those_length, those_all, those_turned}
@@ -53,8 +53,8 @@ module _ (bad : Notice → Bool) where
   filed_lower k m [] h f = tt
   filed_lower k m (y ∷ ys) h f = let g = f.0 in (omega arith, f.1, f.2)
 
-  -- "by rising number": a list is filed exactly where each of its notices lies above where it starts and is not bad, and each has a
-  -- lower number than all that come after it
+  -- "the lowest number first": a list is filed exactly where each of its notices lies above where it starts and is not bad, and
+  -- each has a lower number than all that come after it
   pub filed_exactly : (d : Notice) (m : ℕ) (l : List Notice)
       → Filed bad m l
       ↔ (((x : Notice) → Memᴰ x l → (m < x.number) × (bad x ≡ false))
@@ -150,7 +150,7 @@ insert_length x (y ∷ ys) = go (y.number below x.number) (insert_length x ys)
 
 pub insert_filed : (bad : Notice → Bool) (m : ℕ) (x : Notice) (l : List Notice)
     → Filed bad m l → m < x.number → bad x ≡ false → stands x.number l ≡ false → Filed bad m (insert x l)
-unfolding insert Filed some
+unfolding insert Filed
 insert_filed bad m x [] f h u s = (h, u, tt)
 insert_filed bad m x (y ∷ ys) f h u s = go (dec_lt y.number x.number) (ℕ_discrete y.number x.number) (insert_filed bad y.number x ys f.2)
   where
@@ -170,7 +170,7 @@ insert_first bad m x (y ∷ ys) f h = let g = f.0 in rw (le-ltb y.number x.numbe
 -- those that a test picks, of notices by rising number
 module _ (test bad : Notice → Bool) where
   pub those_filed : (m : ℕ) (l : List Notice) → Filed bad m l → Filed bad m (those test l)
-  unfolding those Filed
+  unfolding Filed
   those_filed m [] f = tt
   those_filed m (y ∷ ys) f = go (test y) (those_filed y.number ys f.2)
     where
@@ -180,7 +180,7 @@ module _ (test bad : Notice → Bool) where
 
   -- inserting, and then picking
   pub those_insert : (m : ℕ) (x : Notice) (l : List Notice) → Filed bad m l → those test (insert x l) ≡ cond (test x) (insert x (those test l)) (those test l)
-  unfolding those insert Filed
+  unfolding insert Filed
   those_insert m x [] f = refl
   those_insert m x (y ∷ ys) f = go (dec_lt y.number x.number) (those_insert y.number x ys f.2)
     where

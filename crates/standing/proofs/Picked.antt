@@ -7,6 +7,7 @@ use mathlib.Core.Logic.{◌⊎◌, inl, inr, ⊎_elim, ◌↔◌}
 use Prim.Native.Nat.{ℕ, suc, ◌≤◌}
 use native.Mathlib.Omega.{arith}
 use lib.ListN.{length}
+use Rattle.std.specs.Prelude.{Some as Found, find, option_map, unwrap_or}
 use Rattle.notices.specs.declared.Notice.{Notice}
 use Rattle.standing.specs.Picked.{Some, some, lowest, those}
 
@@ -16,7 +17,6 @@ module _ (test : Notice → Bool) where
   picked_of y ys w = ⊎_elim (λ e. inl (ap test (sym e) ∙ w.2)) (λ h. inr (w.0, h, w.2)) (Memᴰ.cases_cons w.1)
 
   pub some_exactly : (l : List Notice) → (some test l ≡ true) ↔ Some test l
-  unfolding some
   some_exactly [] = ((λ e. absurd (true≢false (sym e))), (λ w. absurd (Memᴰ.not-nil w.1)))
   some_exactly (y ∷ ys) = (there (test y) refl (some_exactly ys).0, (λ w. back (test y) refl (some_exactly ys).1 (picked_of y ys w)))
     where
@@ -45,7 +45,6 @@ module _ (test : Notice → Bool) where
 
   -- those that are picked
   pub those_exactly : (x : Notice) (l : List Notice) → Memᴰ x (those test l) ↔ (Memᴰ x l × (test x ≡ true))
-  unfolding those
   those_exactly x [] = ((λ h. absurd (Memᴰ.not-nil h)), (λ w. absurd (Memᴰ.not-nil w.0)))
   those_exactly x (y ∷ ys) =
       let ih = those_exactly x ys in
@@ -64,7 +63,6 @@ module _ (test : Notice → Bool) where
       back false q ih (inr h) p = ih h
 
   pub those_length : (l : List Notice) → length (those test l) ≤ length l
-  unfolding those
   those_length [] = omega arith
   those_length (y ∷ ys) = go (test y) (those_length ys)
     where
@@ -74,9 +72,16 @@ module _ (test : Notice → Bool) where
 
   -- where each is picked, they are the list
   pub those_all : (l : List Notice) → ((x : Notice) → Memᴰ x l → test x ≡ true) → those test l ≡ l
-  unfolding those
   those_all [] h = refl
   those_all (y ∷ ys) h = rw (h y (Memᴰ.head refl)) (ap (λ (zs : List Notice). y ∷ zs) (those_all ys (λ x m. h x (Memᴰ.tail m))))
+
+-- the number of the first notice of a list where that is picked, and otherwise that of the first among the others
+pub lowest_cons : (test : Notice → Bool) (x : Notice) (xs : List Notice) → lowest test (x ∷ xs) ≡ cond (test x) x.number (lowest test xs)
+lowest_cons test x xs = go (test x)
+  where
+    go : (b : Bool) → unwrap_or (option_map (λ (y : Notice). y.number) (cond b (Found x) (find test xs))) 0 ≡ cond b x.number (lowest test xs)
+    go true = refl
+    go false = refl
 
 -- what a test picks from those that another picks: what both pick
 module _ (one other : Notice → Bool) where
@@ -84,7 +89,6 @@ module _ (one other : Notice → Bool) where
   both x = one x && other x
 
   pub some_those : (l : List Notice) → some other (those one l) ≡ some both l
-  unfolding some those
   some_those [] = refl
   some_those (y ∷ ys) = go (one y) (some_those ys)
     where
@@ -93,17 +97,15 @@ module _ (one other : Notice → Bool) where
       go false ih = ih
 
   pub lowest_those : (l : List Notice) → lowest other (those one l) ≡ lowest both l
-  unfolding lowest those
   lowest_those [] = refl
-  lowest_those (y ∷ ys) = go (one y) (lowest_those ys)
+  lowest_those (y ∷ ys) = go (one y) (lowest_those ys) ∙ sym (lowest_cons both y ys)
     where
       go : (b : Bool) → lowest other (those one ys) ≡ lowest both ys
           → lowest other (cond b (y ∷ those one ys) (those one ys)) ≡ cond (b && other y) y.number (lowest both ys)
-      go true ih = ap (λ (k : ℕ). cond (other y) y.number k) ih
+      go true ih = lowest_cons other y (those one ys) ∙ ap (λ (k : ℕ). cond (other y) y.number k) ih
       go false ih = ih
 
   pub those_those : (l : List Notice) → those other (those one l) ≡ those both l
-  unfolding those
   those_those [] = refl
   those_those (y ∷ ys) = go (one y) (those_those ys)
     where
@@ -114,7 +116,6 @@ module _ (one other : Notice → Bool) where
 
 -- tests that agree on a list's notices pick the same
 pub those_same : (one other : Notice → Bool) (l : List Notice) → ((x : Notice) → Memᴰ x l → one x ≡ other x) → those one l ≡ those other l
-unfolding those
 those_same one other [] h = refl
 those_same one other (y ∷ ys) h =
     ap₂ (λ (b : Bool) (zs : List Notice). cond b (y ∷ zs) zs) (h y (Memᴰ.head refl)) (those_same one other ys (λ x m. h x (Memᴰ.tail m)))

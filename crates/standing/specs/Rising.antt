@@ -1,5 +1,6 @@
--- Document 01, 'Notices' and 'listing': notices by rising number, and what an unused place holds.
+-- docs/RULES.md, 'The book' and 'Entries': notices by rising number, and what an unused place holds.
 use Rattle.std.specs.Prelude.{◌≡◌, Bool, false, cond, not, ◌&&◌, ◌||◌, ℕ, ◌-◌, ◌<◌, eqb, length, replicate}
+use Rattle.std.specs.List.{list_any}
 use mathlib.Core.List.{List, [], ◌∷◌, ◌++◌, Memᴰ}
 use Rattle.table.specs.Checks.{◌below◌, ◌not_below◌}
 use Rattle.notices.specs.declared.Notice.{Notice}
@@ -7,8 +8,8 @@ use Rattle.notices.specs.declared.Target.{Target}
 use Rattle.notices.specs.declared.Target.TheVariants.{Links, Switch, Pattern}
 use Rattle.standing.specs.Picked.{some, those}
 
--- What an unused place of the array holds. Not document 01's: any notice would do, since no place after those in use is read
--- as a notice.
+-- What an unused place of the array holds. No rule of docs/RULES.md: any notice would do, since no place after those in use
+-- is read as a notice.
 abbrev pub filler : Notice
 filler = record { number = 0; target = Links 0 0 0; class = 0 }
 
@@ -61,9 +62,8 @@ abbrev pub is_filler : Notice → Bool
 is_filler x = eqb x.number 0 && is_first_target x.target && eqb x.class 0
 
 -- some place holds something else than the filler (`unlittered`, `filler_unlittered`, proofs/Filings)
-unfoldable pub littered : List Notice → Bool
-littered [] = false
-littered (x ∷ xs) = not (is_filler x) || littered xs
+abbrev pub littered : List Notice → Bool
+littered l = list_any (λ x. not (is_filler x)) l
 
 -- no notice stands twice in the list, whatever the order: `distinct_places`, `distinct_reordered` (proofs/Distinct)
 unfoldable pub Distinct : List Notice → Type 0

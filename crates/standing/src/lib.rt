@@ -1,2 +1,2 @@
-// Document 01, 'Notices': notices by rising number, as lists. They are defined in specs/; there is no code here.
+// docs/RULES.md, 'The book': notices by rising number, as lists. They are defined in specs/; there is no code here.
 #![tactic(auto)]
