@@ -7,7 +7,7 @@ use Rattle.fabric.specs.Labels.{size, bit, Agree}
 use Rattle.fabric.specs.Links.{lands}
 use Rattle.fabric.proofs.Bits.{bit_lt, low_of_low, low_more, agree_bit}
 use Rattle.fabric.proofs.Links.{nonstraight_bit}
-use Rattle.frontier.specs.Columns.{Distance, high, low, high_right, straight_at, fork_at}
+use Rattle.frontier.specs.Columns.{Distance, high, low, high_right, straight_at, fork_at, IsColumn}
 use Rattle.frontier.proofs.Pivots.{high_lt, high_straight, high_plus}
 
 module _ (n s d a : ℕ) (few : n ≤ 12) (source : s < size n) (distance : Distance s d a) where
@@ -85,3 +85,21 @@ module _ (n s d a : ℕ) (few : n ≤ 12) (source : s < size n) (distance : Dist
       go : Dec (i < n) → cond (not (high_right n s d i)) (high n s d i) (low n s d i) ≡ cond (not (eqb (bit i a) 0)) (above i) (lands n i 2 (above i))
       go (yes l) = ap₂ (λ (b : Bool) (x : ℕ). cond (not b) x (lands n i 2 x)) (right_where i l) (high_above i (omega arith))
       go (no l) = last_same i (omega arith) (not (high_right n s d i)) (not (eqb (bit i a) 0))
+
+  -- so a column from its high switch: where that one's bit is right, and where it is not
+  module _ (i : ℕ) (inside : i ≤ n) {b h l : ℕ} (bit_there : b ≡ bit i a) (eh : h ≡ above i) (el : l ≡ lands n i 2 h) where
+    pub right_column : b ≡ 0 → IsColumn n s d i (record { straight = h; fork = l })
+    right_column z =
+        let e : eqb (bit i a) 0 ≡ true = eq-eqb (bit i a) 0 (sym bit_there ∙ z) in
+        record {
+          straight = sym (straight_where i inside ∙ rw (e, ← eh));
+          fork = sym (fork_where i inside ∙ rw (e, ← eh, ← el));
+        }
+
+    pub wrong_column : (b ≡ 0 → ⊥) → IsColumn n s d i (record { straight = l; fork = h })
+    wrong_column z =
+        let e : eqb (bit i a) 0 ≡ false = ne_eqb (bit i a) 0 (λ y. z (bit_there ∙ y)) in
+        record {
+          straight = sym (straight_where i inside ∙ rw (e, ← eh, ← el));
+          fork = sym (fork_where i inside ∙ rw (e, ← eh));
+        }

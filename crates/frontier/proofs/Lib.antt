@@ -8,3 +8,4 @@ pub mod Frontier
 pub mod WaysOnward
 pub mod Sets
 pub mod Filled
+pub mod BitRead

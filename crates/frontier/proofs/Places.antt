@@ -1,6 +1,7 @@
 -- Laws of the frontier's bookkeeping: which case holds when, and that its numbers fit.
-use Rattle.std.proofs.Common.{◌≡◌, ℕ, suc, ◌+◌, ◌-◌, ◌*◌, ◌^◌, ◌<◌, ◌≤◌, Bool, true, false, cond, leb, sym, ap, ◌∙◌, subst, zero-le, pow-suc, arith, pow_pos, pow_mono, le-leb}
+use Rattle.std.proofs.Common.{◌≡◌, ℕ, suc, ◌+◌, ◌-◌, ◌*◌, ◌^◌, ◌<◌, ◌≤◌, Bool, true, false, cond, leb, sym, ap, ◌∙◌, subst, zero-le, pow-suc, arith, pow_pos, pow_mono, le-leb, min}
 use borrow.Author.Tests.{lt-leb}
+use native.Mathlib.Decide.{dec_le}
 use Rattle.fabric.specs.Labels.{size}
 use Rattle.frontier.specs.declared.Front.{Front}
 use Rattle.frontier.specs.Stops.{StopsAt}
@@ -26,6 +27,17 @@ module _ (p q : ℕ) where
   unfolding lesser
   lesser_later l = sym (ap (λ (b : Bool). cond b p q) (lt-leb p q l))
 
+  -- std's `min` is the lesser
+  pub min_lesser : min p q ≡ lesser p q
+  min_lesser = go (dec_le p q)
+    where
+      go : Dec (p ≤ q) → min p q ≡ lesser p q
+      go (yes l) = let m : min p q ≡ p = omega arith in m ∙ lesser_earlier l
+      go (no l) = let m : min p q ≡ q = omega arith in m ∙ lesser_later (omega arith)
+
+  pub lesser_min : lesser p q ≡ min p q
+  lesser_min = sym min_lesser
+
 -- in column 0 the source is reached
 pub start_reached : (n : ℕ) → lesser 0 (size n) < size n
 start_reached n = subst (λ (x : ℕ). x < size n) (lesser_earlier 0 (size n) zero-le) (pow_pos n)
@@ -39,17 +51,17 @@ lesser_has : (P : ℕ → Type 0) {p q : ℕ} → P p → P q → P (lesser p q)
 unfolding lesser
 lesser_has P {p} {q} x y = chosen_has P (leb p q) x y
 
-pub chosen_below : (b : Bool) {r p q m : ℕ} → r ≡ cond b p q → p < m → q < m → r < m
-chosen_below b {r} {p} {q} {m} e x y = subst (λ (z : ℕ). z < m) (sym e) (chosen_has (λ (z : ℕ). z < m) b x y)
+-- the frontier one stage on, from what its links give: where the high switch goes straight, and where the low one does
+module _ (n t : ℕ) (x : StopsAt) (f : Front) {right : Bool} {stays forks straight up down met : ℕ} {a b m : Bool} (ea : a ≡ x.straight) (eb : b ≡ x.plus) (em : m ≡ x.minus)
+    (es : stays ≡ cond right f.high f.low) (ef : forks ≡ cond right f.low f.high)
+    (ek : straight ≡ through n stays a 0) (eu : up ≡ through n forks b (1 - t)) (ed : down ≡ through n forks m t) where
+  pub advanced_high : right ≡ true → met ≡ min straight up → ◌≡◌ {A = Front} (record { high = met; low = down }) (advanced n right t x f)
+  unfolding advanced
+  advanced_high e r = rw (r, min_lesser, ek, eu, ed, es, ef, ea, eb, em, e)
 
--- the frontier one stage on, from what its links give
-pub advanced_of : (n : ℕ) (right : Bool) (t : ℕ) (x : StopsAt) (f : Front) {stays forks straight up down other met high low : ℕ} {a b m : Bool}
-    → a ≡ x.straight → b ≡ x.plus → m ≡ x.minus → stays ≡ cond right f.high f.low → forks ≡ cond right f.low f.high
-    → straight ≡ through n stays a 0 → up ≡ through n forks b (1 - t) → down ≡ through n forks m t
-    → other ≡ cond right up down → met ≡ lesser straight other → high ≡ cond right met up → low ≡ cond right down met
-    → ◌≡◌ {A = Front} (record { high = high; low = low }) (advanced n right t x f)
-unfolding advanced
-advanced_of n right t x f a b m es ef ea eu ed eo em eh el = rw (eh, el, em, eo, ea, eu, ed, es, ef, a, b, m)
+  pub advanced_low : right ≡ false → met ≡ min straight down → ◌≡◌ {A = Front} (record { high = up; low = met }) (advanced n right t x f)
+  unfolding advanced
+  advanced_low e r = rw (r, min_lesser, ek, eu, ed, es, ef, ea, eb, em, e)
 
 -- the numbers of a frontier in column i fit, and so do those one stage on
 module _ (n i : ℕ) (few : n ≤ 12) where

@@ -1,5 +1,5 @@
 -- A word of sets, four bits a stage: one set more.
-use Rattle.std.proofs.Common.{◌≡◌, ℕ, zero, suc, ◌+◌, ◌-◌, ◌*◌, ◌/◌, ◌%◌, ◌^◌, ◌<◌, ◌≤◌, min, max, Bool, true, false, cond, not, ◌&&◌, ◌||◌, eqb, sym, refl, ap, ◌∙◌, ap₂, mod-eq_of_lt, mul_assoc, arith, pow_pos, pow_mono, pow-add, shl_lt, eq-eqb, ne_eqb}
+use Rattle.std.proofs.Common.{◌≡◌, ℕ, zero, suc, ◌+◌, ◌-◌, ◌*◌, ◌/◌, ◌%◌, ◌^◌, ◌<◌, ◌≤◌, min, max, Bool, true, false, not, ◌&&◌, ◌||◌, eqb, sym, refl, ap, ◌∙◌, ap₂, mod-eq_of_lt, mul_assoc, arith, pow_pos, pow_mono, pow-add, shl_lt, eq-eqb, ne_eqb}
 use native.Mathlib.Nat.{mul-add-mod_self_right, mul-mod_left, zero-max}
 use native.Mathlib.Decide.{ℕ_discrete, dec_lt}
 use lib.Pow.{shl-shr, high}
@@ -93,11 +93,6 @@ pub shared_exactly : (a b : ℕ) → a < 8 → not (eqb (bit_and a b) 0) ≡ sha
 shared_exactly a b small =
     none_or_some (bit_and a b) (omega (arith, and_le_l a b))
     ∙ ap₂ (λ (x y : Bool). x || y) (has_and 0 a b) (ap₂ (λ (x y : Bool). x || y) (has_and 1 a b) (has_and 2 a b))
-
--- a set that is put in only where something holds
-pub part_has : (b : Bool) (set c : ℕ) → has (cond b set 0) c ≡ (b && has set c)
-part_has true set c = refl
-part_has false set c = none_has c
 
 -- a set put at stage k is stage k's, and no other's
 module _ (set k : ℕ) (small : set < 8) where

@@ -1,9 +1,10 @@
 -- The two switches of a column that lie on ways from s to d. Nobody has to believe it: proofs/Sides.antt says that every clear walk toward d
 -- arrives at one of them.
-use Rattle.std.specs.Prelude.{◌≡◌, ℕ, zero, suc, ◌+◌, ◌%◌, ◌≤◌, Bool, cond, ◌==◌, slice_index}
+use Rattle.std.specs.Prelude.{◌≡◌, ℕ, zero, suc, ◌+◌, ◌%◌, ◌≤◌, Bool, cond, ◌==◌, get_or}
 use Rattle.fabric.specs.Labels.{bit}
 use Rattle.fabric.specs.Links.{lands}
-use Rattle.frontier.specs.declared.Columns.{Columns}
+use Rattle.frontier.specs.declared.ways.Column.{Column}
+use Rattle.frontier.specs.declared.ways.Columns.{Columns}
 
 -- how far d lies above s, modulo 65,536
 abbrev pub Distance : ℕ → ℕ → ℕ → Type 0
@@ -29,7 +30,18 @@ straight_at n s d i = cond (high_right n s d i) (high n s d i) (low n s d i)
 abbrev pub fork_at : ℕ → ℕ → ℕ → ℕ → ℕ
 fork_at n s d i = cond (high_right n s d i) (low n s d i) (high n s d i)
 
--- what the arrays hold, from column 0 to the last
-pub record ColumnsOf (n s d : ℕ) (c : Columns) : Type 0 where
-  pub straight : (i : ℕ) → i ≤ n → slice_index c.straight i ≡ straight_at n s d i
-  pub fork : (i : ℕ) → i ≤ n → slice_index c.fork i ≡ fork_at n s d i
+-- of column i, the switch that goes straight and the one that forks
+pub record IsColumn (n s d i : ℕ) (c : Column) : Type 0 where
+  pub straight : c.straight ≡ straight_at n s d i
+  pub fork : c.fork ≡ fork_at n s d i
+
+-- column i of the thirteen, of which there is none from 13 on
+abbrev pub no_column : Column
+no_column = record { straight = 0; fork = 0 }
+
+abbrev pub column_at : Columns → ℕ → Column
+column_at w i = get_or w.columns i no_column
+
+-- what the columns hold, from column 0 to the last
+pub record ColumnsOf (n s d : ℕ) (w : Columns) : Type 0 where
+  pub at : (i : ℕ) → i ≤ n → IsColumn n s d i (column_at w i)

@@ -2,7 +2,7 @@
 use Rattle.std.specs.Prelude.{◌≡◌, ℕ, ◌+◌, ◌*◌, ◌/◌, ◌%◌, ◌^◌, ◌<◌, Bool, cond, not, ◌&&◌, ◌||◌, ◌==◌}
 use Rattle.fabric.specs.Labels.{bit}
 use Rattle.paths.specs.Clear.{Rule}
-use Rattle.frontier.specs.declared.Stops.{Stops}
+use Rattle.frontier.specs.declared.links.Stops.{Stops}
 use Rattle.frontier.specs.Columns.{straight_at, fork_at}
 
 -- the three links out of a column's two switches that lead toward the destination: straight from the one, plus and minus from the other
@@ -24,7 +24,7 @@ stops_from rule i straight fork =
 abbrev pub has : ℕ → ℕ → Bool
 has set c = bit c set == 1
 
--- the set of three links: "straight 1, plus 2, minus 4, added"
+-- the set of three links: "a sum, of 1 for straight, 2 for plus and 4 for minus"
 abbrev pub set_of : Bool → Bool → Bool → ℕ
 set_of straight plus minus = cond straight 1 0 + cond plus 2 0 + cond minus 4 0
 

@@ -1,5 +1,5 @@
--- The ways onward out of a column's two switches, as a set. Nobody has to believe it: `ways_are` (proofs/WaysOnward.antt) says that they are those of document
--- 02, §2.
+-- The ways onward out of a column's two switches, as a set. Nobody has to believe it: `ways_are` (proofs/WaysOnward.antt) says that they are those of
+-- docs/RULES.md, 'Routes'.
 use Rattle.std.specs.Prelude.{◌≡◌, ℕ, ◌<◌, Bool, true, cond, ◌↔◌, ◌==◌, nat_lt}
 use Rattle.fabric.specs.Labels.{size}
 use Rattle.paths.specs.Clear.{Rule}

@@ -1,56 +1,94 @@
 // The two switches of each column that lie on ways from a source to a destination.
-ghost use Rattle.std.specs.Prelude.{◌≡◌, ◌+◌, ◌%◌, ◌^◌, ◌<◌, ◌≤◌, if◌then◌else◌};
+ghost use Rattle.std.specs.Prelude.{◌≡◌, ◌+◌, ◌%◌, ◌^◌, ◌<◌, ◌≤◌};
 ghost use Rattle.fabric.specs.Labels.{size};
 ghost use Rattle.fabric.specs.Links.{lands};
-ghost use Rattle.frontier.specs.Columns.{Distance, ColumnsOf};
+ghost use Rattle.frontier.specs.Columns.{Distance};
 
-use super::Columns;
+use fabric::Fabric;
+
+// The two switches of a column by what they do there: the one whose bit is right goes straight, the other one forks.
+#[derive(Clone, Copy)]
+pub struct Column {
+    pub straight: u16,
+    pub fork: u16,
+}
+
+impl Column {
+    ghost use Rattle.frontier.specs.Columns.{IsColumn};
+
+    // The two switches of column i.
+    fn between(fabric: Fabric, i: u8, source: u16, destination: u16) -> Column
+        requires { (i ≤ 12) × (source < size fabric.n) }
+        ensures { i ≤ fabric.n → IsColumn fabric.n source destination i result }
+    {
+        let distance = distance(source, destination);
+        let high = above(fabric, i, source, distance);
+        let low = below(fabric, i, high);
+        if fabric::bit_of(i, distance) == 0 {
+            Column {
+                straight: high,
+                fork: low,
+            }
+        } else {
+            Column {
+                straight: low,
+                fork: high,
+            }
+        }
+    }
+}
+
+// The two switches of each column, from column 0 to the last.
+#[derive(Clone, Copy)]
+pub struct Columns {
+    pub columns: [Column; 13],
+}
+
+impl Columns {
+    ghost use Rattle.frontier.specs.Columns.{column_at, ColumnsOf};
+
+    pub fn between(fabric: Fabric, source: u16, destination: u16) -> Columns
+        requires { source < size fabric.n }
+        ensures { ColumnsOf fabric.n source destination result }
+    {
+        let mut columns = [Column {
+            straight: 0,
+            fork: 0,
+        }; 13];
+        for i in 0..13u8 {
+            columns[i as usize] = Column::between(fabric, i, source, destination);
+        }
+        Columns { columns }
+    }
+
+    // The two switches of column i.
+    pub fn at(&self, i: u8) -> Column
+        requires { i ≤ 12 }
+        ensures { result ≡ column_at self.now i }
+    {
+        self.columns[i as usize]
+    }
+}
 
 // How far the destination lies above the source, modulo 65,536. N divides that, so its low n bits are the distance modulo N.
 pub fn distance(source: u16, destination: u16) -> u16
     ensures { Distance source destination result }
 {
-    std::num::wrapping_sub_u16(destination, source)
-}
-
-pub fn columns_between(n: u8, source: u16, destination: u16) -> Columns
-    requires { (n ≤ 12) × (source < size n) }
-    ensures { ColumnsOf n source destination result }
-{
-    let distance = distance(source, destination);
-    let mut straight = [0u16; 13];
-    let mut fork = [0u16; 13];
-    let mut i = 0;
-    while i < 13 {
-        let high = above(n, i, source, distance);
-        let low = below(n, i, high);
-        let right = fabric::bit_of(i, distance) == 0;
-        straight[i as usize] = chosen(right, high, low);
-        fork[i as usize] = chosen(!right, high, low);
-        i += 1;
-    }
-    Columns { straight, fork }
+    destination.wrapping_sub(source)
 }
 
 // The high switch of column i, above the source by the low i bits of the distance.
-fn above(n: u8, i: u8, source: u16, distance: u16) -> u16
-    requires { (n ≤ 12) × (i ≤ 12) }
-    ensures { result ≡ (source + distance % 2 ^ i) % 2 ^ n }
+fn above(fabric: Fabric, i: u8, source: u16, distance: u16) -> u16
+    requires { i ≤ 12 }
+    ensures { result ≡ (source + distance % 2 ^ i) % 2 ^ fabric.n }
 {
-    std::num::wrapping_add_u16(source, distance % fabric::size(i)) % fabric::size(n)
+    source.wrapping_add(distance % fabric::stride(i)) % fabric.size()
 }
 
 // The low one, 2^i below it.
-fn below(n: u8, i: u8, high: u16) -> u16
-    requires { (n ≤ 12) × (i ≤ 12) }
-    ensures { i ≤ n → result ≡ lands n i 2 high }
+fn below(fabric: Fabric, i: u8, high: u16) -> u16
+    requires { i ≤ 12 }
+    ensures { i ≤ fabric.n → result ≡ lands fabric.n i 2 high }
 {
-    std::num::wrapping_sub_u16(high, fabric::size(i)) % fabric::size(n)
-}
-
-// As `chosen` of the frontier, for labels.
-fn chosen(first: bool, p: u16, q: u16) -> u16
-    ensures { result ≡ (if first then p else q) }
-{
-    if first { p } else { q }
+    high.wrapping_sub(fabric::stride(i)) % fabric.size()
 }

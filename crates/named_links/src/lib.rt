@@ -9,7 +9,8 @@ ghost use Rattle.notices.specs.Notices.{unfit};
 ghost use Rattle.named_links.specs.Named.{Ways, WithTarget, WithSet, WithInputs};
 
 use at_stage::{inputs, meant};
-use frontier::{Stops, with_stopped};
+use fabric::Fabric;
+use frontier::{Columns, Stops};
 use notices::{Notice, Target};
 
 mod at_stage; // at_stage.rt: which of one stage's links a notice names
@@ -17,114 +18,77 @@ mod at_stage; // at_stage.rt: which of one stage's links a notice names
 pub use at_stage::named_at;
 
 // What is stopped, with the links more that a notice names.
-pub fn with_notice(
-    n: u8,
-    straights: &[u16; 13],
-    forks: &[u16; 13],
-    x: Notice,
-    stops: Stops,
-) -> Stops
-    requires { (n ≤ 12) × (unfit n x ≡ false) × Ways n straights.now forks.now }
-    ensures { WithTarget n straights.now forks.now x.target stops result }
+pub fn with_notice(fabric: Fabric, columns: &Columns, x: Notice, stops: Stops) -> Stops
+    requires { (unfit fabric.n x ≡ false) × Ways fabric.n columns.now }
+    ensures { WithTarget fabric.n columns.now x.target stops result }
 {
-    let t = x.target;
-    match t {
-        Target::Links { stage, switch, set } => with_links(
-            straights, forks, stage, switch, set, stops,
-        ),
-        Target::Switch { column, switch } => with_switch(
-            n, straights, forks, column, switch, stops,
-        ),
+    match x.target {
+        Target::Links { stage, switch, set } => with_links(columns, stage, switch, set, stops),
+        Target::Switch { column, switch } => with_switch(fabric, columns, column, switch, stops),
         Target::Pattern {
             stage,
             value,
             mask,
             set,
-        } => with_pattern(straights, forks, stage, value, mask, set, stops),
+        } => with_pattern(columns, stage, value, mask, set, stops),
     }
 }
 
-fn with_links(
-    straights: &[u16; 13],
-    forks: &[u16; 13],
-    stage: u8,
-    switch: u16,
-    set: u8,
-    stops: Stops,
-) -> Stops
+fn with_links(columns: &Columns, stage: u8, switch: u16, set: u8, stops: Stops) -> Stops
     requires { stage ≤ 12 }
-    ensures { (n : ℕ) → WithTarget n straights.now forks.now (Links stage switch set) stops result }
+    ensures { (n : ℕ) → WithTarget n columns.now (Links stage switch set) stops result }
 {
-    let straight = straights[stage as usize] == switch;
-    let fork = forks[stage as usize] == switch;
-    if table::either(straight, fork) {
-        return with_set(stage, straight, fork, set, stops);
+    let switches = columns.at(stage);
+    let straight = switches.straight == switch;
+    let fork = switches.fork == switch;
+    if straight || fork {
+        with_set(stage, straight, fork, set, stops)
+    } else {
+        stops
     }
-    stops
 }
 
-fn with_pattern(
-    straights: &[u16; 13],
-    forks: &[u16; 13],
-    stage: u8,
-    value: u16,
-    mask: u16,
-    set: u8,
-    stops: Stops,
-) -> Stops
+fn with_pattern(columns: &Columns, stage: u8, value: u16, mask: u16, set: u8, stops: Stops) -> Stops
     requires { stage ≤ 12 }
-    ensures { (n : ℕ) → WithTarget n straights.now forks.now (Pattern stage value mask set) stops result }
+    ensures { (n : ℕ) → WithTarget n columns.now (Pattern stage value mask set) stops result }
 {
-    let straight = straights[stage as usize] & mask == value;
-    let fork = forks[stage as usize] & mask == value;
+    let switches = columns.at(stage);
+    let straight = switches.straight & mask == value;
+    let fork = switches.fork & mask == value;
     with_set(stage, straight, fork, set, stops)
 }
 
 // The links of a set, where it is of the switch that goes straight and where it is of the one that forks.
+// Two tests, no switches.
 fn with_set(stage: u8, straight: bool, fork: bool, set: u8, stops: Stops) -> Stops
     requires { stage ≤ 12 }
     ensures { WithSet stage straight fork set stops result }
 {
-    with_stopped(stops, stage, meant(straight, fork, set))
+    stops.with(stage, meant(straight, fork, set))
 }
 
 // The links that leave a switch of column 0, set 7, and the input links of any other, which leave the column before its own. Every link on ways leads to
 // one of a column's two switches.
-fn with_switch(
-    n: u8,
-    straights: &[u16; 13],
-    forks: &[u16; 13],
-    column: u8,
-    switch: u16,
-    stops: Stops,
-) -> Stops
-    requires { (n ≤ 12) × (column ≤ n) × Ways n straights.now forks.now }
-    ensures { WithTarget n straights.now forks.now (Switch column switch) stops result }
+#[tactic(auto, using(crate::proofs::Naming::column_0_more, crate::proofs::Naming::switch_more))]
+fn with_switch(fabric: Fabric, columns: &Columns, column: u8, switch: u16, stops: Stops) -> Stops
+    requires { (column ≤ fabric.n) × Ways fabric.n columns.now }
+    ensures { WithTarget fabric.n columns.now (Switch column switch) stops result }
 {
     if column == 0 {
-        return with_links(straights, forks, 0, switch, 7, stops);
+        return with_links(columns, 0, switch, 7, stops);
     }
-    let straight = straights[column as usize] == switch;
-    let fork = forks[column as usize] == switch;
-    if table::either(straight, fork) {
-        return with_inputs(n, straights, forks, column - 1, switch, stops);
+    let switches = columns.at(column);
+    if switches.straight == switch || switches.fork == switch {
+        with_inputs(fabric, columns, column - 1, switch, stops)
+    } else {
+        stops
     }
-    stops
 }
 
 // The links of stage i that lead to a switch.
-fn with_inputs(
-    n: u8,
-    straights: &[u16; 13],
-    forks: &[u16; 13],
-    i: u8,
-    switch: u16,
-    stops: Stops,
-) -> Stops
-    requires { (n ≤ 12) × (i < n) × Ways n straights.now forks.now }
-    ensures { WithInputs n straights.now forks.now i switch stops result }
+fn with_inputs(fabric: Fabric, columns: &Columns, i: u8, switch: u16, stops: Stops) -> Stops
+    requires { (i < fabric.n) × Ways fabric.n columns.now }
+    ensures { WithInputs fabric.n columns.now i switch stops result }
 {
-    let straight = straights[i as usize];
-    let fork = forks[i as usize];
-    with_stopped(stops, i, inputs(n, i, straight, fork, switch))
+    stops.with(i, inputs(fabric, i, columns.at(i), switch))
 }
