@@ -1,4 +1,4 @@
-pub mod Inside
 pub mod Lower
 pub mod Judging
+pub mod OnePass
 pub mod Testing

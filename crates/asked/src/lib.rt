@@ -1,110 +1,105 @@
-// Document 01, 'Numbers handed back', and document 02, §2, §4 and §5: what a book is asked: link stopped or not, and listing.
+// docs/RULES.md, 'Entries', 'The book' and 'Classes': what a book is asked: link stopped or not, and listing.
 #![tactic(auto)]
 
+mod one_link; // one_link.rt: a link, and whether a notice names it
 mod pass; // pass.rt: the link test in one pass over the notices
 mod three; // three.rt: the three links of a switch in one pass
 
-ghost use Rattle.std.specs.Prelude.{◌≡◌, true, false, ◌<◌};
+ghost use Rattle.std.specs.Prelude.{◌≡◌, true, false, ◌||◌, ◌≤◌, ◌<◌};
+ghost use Rattle.table.specs.Checks.{◌not_below◌};
 ghost use Rattle.fabric.specs.Labels.{size};
-ghost use Rattle.book.specs.Standing.{standing, stopper, unsound, Sound};
-ghost use Rattle.questions.specs.Entries.{Tests, Lists};
+ghost use Rattle.book.specs.Standing.{standing, stopper, unsound};
+ghost use Rattle.questions.specs.Entries.{number_or_none, Tests, Lists};
 
 use actions::ACTION_LENGTH;
-use book::Book;
-use questions::{Link, Listing};
+use book::{Book, SoundBook};
+use fabric::Fabric;
+use one_link::OneLink;
 use table::Refusal;
 pub use three::{Lowest, stoppers};
 
-// The lowest number of a standing notice that names the link, or 0.
-pub fn stopper(book: Book, stage: u8, switch: u16, code: u8) -> u16
-    requires { (Sound book) × (stage < book.n) × (switch < size book.n) × (code < 3) }
-    ensures { result ≡ stopper book.n (standing book) stage switch code }
+// A code stays a number here: 12 judges one above 2 (docs/RULES.md, 'Numbers handed back').
+
+// The lowest number of a standing notice that names the link, if one does.
+pub fn stopper(book: &SoundBook, stage: u8, switch: u16, code: u8) -> Option<u16>
+    requires { (stage < book.now.book.n) × (switch < size book.now.book.n) × (code < 3) }
+    ensures { result ≡ number_or_none (stopper book.now.book.n (standing book.now.book) stage switch code) }
 {
-    let end = fabric::landing(book.n, stage, code, switch);
-    let count = book.count;
-    let mut i = 0;
-    while i < count {
-        let x = book.notices[i];
-        if targets::names(x, stage, switch, code, end) {
-            return x.number;
-        }
-        i += 1;
-    }
-    0
+    let fabric = Fabric { n: book.book.n };
+    let link = OneLink {
+        fabric,
+        stage,
+        switch,
+        code,
+        end: fabric.landing(stage, code, switch),
+    };
+    link.first_number(book.notices())
 }
 
-// "link stopped or not: 16, 4, 12." Where there is such a link, one pass judges 16 and finds what stops the link.
-pub fn link(book: Book, stage: u8, switch: u16, code: u8) -> Link
+// "Link test (book, stage, switch, code): 16, 4, 12." Where there is such a link, one pass judges 16 and finds what stops the link.
+pub fn link(book: Book, stage: u8, switch: u16, code: u8) -> Result<Option<u16>, Refusal>
     ensures { Tests book stage switch code result }
 {
     let n = book.n;
     if fabric::outside_sizes(n) {
-        return Link::Refused(Refusal::Book);
+        return Err(Refusal::Book);
     }
-    if table::either(n <= stage, fabric::outside_labels(n, switch)) {
-        return refused(book, Refusal::Place);
+    if no_such_switch(Fabric { n }, stage, switch) {
+        return Err(judged_first(&book, Refusal::Place));
     }
     if 2 < code {
-        return refused(book, Refusal::Tag);
+        return Err(judged_first(&book, Refusal::Tag));
     }
-    pass::in_one_pass(book, stage, switch, code)
+    pass::in_one_pass(&book, stage, switch, code)
+}
+
+// 4: whether the stage or the switch lies outside the fabric.
+fn no_such_switch(fabric: Fabric, stage: u8, switch: u16) -> bool
+    ensures { (result ≡ (stage not_below fabric.n || switch not_below size fabric.n)) × (result ≡ false → (stage < fabric.n) × (switch < size fabric.n)) }
+{
+    fabric.n <= stage || fabric.outside_labels(switch)
 }
 
 // 16, and where it is not given the refusal that comes after it.
-fn refused(book: Book, why: Refusal) -> Link
-    ensures { (unsound book ≡ true → result ≡ Link.Refused Refusal.Book) × (unsound book ≡ false → result ≡ Link.Refused why) }
+fn judged_first(book: &Book, why: Refusal) -> Refusal
+    ensures { (unsound book.now ≡ true → result ≡ Refusal.Book) × (unsound book.now ≡ false → result ≡ why) }
 {
-    if book::unsound(book) {
-        return Link::Refused(Refusal::Book);
-    }
-    Link::Refused(why)
+    if book.unsound() { Refusal::Book } else { why }
 }
 
 // link stopped or not, over a book that 16 is not given for: 4, 12.
-pub fn tested(book: Book, stage: u8, switch: u16, code: u8) -> Link
-    requires { Sound book }
-    ensures { Tests book stage switch code result }
+pub fn tested(book: &SoundBook, stage: u8, switch: u16, code: u8) -> Result<Option<u16>, Refusal>
+    ensures { Tests book.now.book stage switch code result }
 {
-    let n = book.n;
-    if table::either(n <= stage, fabric::outside_labels(n, switch)) {
-        return Link::Refused(Refusal::Place);
+    let fabric = Fabric { n: book.book.n };
+    if no_such_switch(fabric, stage, switch) {
+        return Err(Refusal::Place);
     }
     if 2 < code {
-        return Link::Refused(Refusal::Tag);
+        return Err(Refusal::Tag);
     }
-    answer(stopper(book, stage, switch, code))
+    Ok(stopper(book, stage, switch, code))
 }
 
-// What the link test answers by the lowest number found, 0 where none is.
-fn answer(lowest: u16) -> Link
-    ensures { (lowest ≡ 0 → result ≡ Link.Clear) × ((lowest ≡ 0 → ⊥) → result ≡ Link.Stopped lowest) }
-{
-    if lowest == 0 {
-        return Link::Clear;
-    }
-    Link::Stopped(lowest)
-}
-
-// "listing: 16, 13.", "eleven bytes each, class last"
-pub fn listing(book: Book, memory: &mut [u8]) -> Listing
+// "Listing (book, memory): 16, 13.", "the eleven bytes of its filing, the class at the end"
+// The test of 16 and one call, as in writer: one function for both is no plainer.
+pub fn listing(book: Book, memory: &mut [u8]) -> Result<usize, Refusal>
     ensures { Lists book memory.old memory.new result }
 {
-    if book::unsound(book) {
-        return Listing::Refused(Refusal::Book);
+    if book.unsound() {
+        return Err(Refusal::Book);
     }
-    listed(book, memory)
+    listed(&SoundBook { book }, memory)
 }
 
 // listing, over a book that 16 is not given for: 13.
-pub fn listed(book: Book, memory: &mut [u8]) -> Listing
-    requires { Sound book }
-    ensures { Lists book memory.old memory.new result }
+pub fn listed(book: &SoundBook, memory: &mut [u8]) -> Result<usize, Refusal>
+    ensures { Lists book.now.book memory.old memory.new result }
 {
-    let count = book.count;
-    if memory.len() < ACTION_LENGTH * count {
-        return Listing::Refused(Refusal::Room);
+    let notices = book.notices();
+    if memory.len() < ACTION_LENGTH * notices.len() {
+        return Err(Refusal::Room);
     }
-    let notices = book.notices;
-    places::laid(notices, count, ACTION_LENGTH, memory);
-    Listing::Listed(count)
+    places::laid(notices, ACTION_LENGTH, memory);
+    Ok(notices.len())
 }

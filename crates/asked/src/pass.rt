@@ -1,67 +1,68 @@
-// Document 02, §4: "one pass over the notices that holds the lowest number found so far". It goes from the last notice to the first, so that what it holds
-// at a place is what the definitions say of the notices from there on.
-ghost use Rattle.std.specs.Prelude.{◌≡◌, ◌≤◌, ◌<◌};
+// docs/RULES.md, 'Numbers handed back': the link test in one pass over the notices that holds the lowest number found so far. It goes from the last notice to the
+// first, so that what it holds at a place is what the definitions say of the notices from there on.
+ghost use Rattle.std.specs.Prelude.{◌≡◌, ◌||◌, ◌≤◌, ◌<◌};
 ghost use Rattle.fabric.specs.Labels.{size};
+ghost use Rattle.notices.specs.Notices.{unfit};
 ghost use Rattle.questions.specs.Entries.{Tests};
-ghost use Rattle.asked.specs.Lower.{Lower};
+ghost use Rattle.asked.specs.Lower.{lower, out_of_order};
 
-use super::answer;
 use book::Book;
-use questions::Link;
+use fabric::Fabric;
+use notices::Notice;
 use table::Refusal;
 
-// The lower of the number found so far, 0 where none is, and the next.
-pub fn lower(found: u16, number: u16) -> u16
-    ensures { Lower found number result }
+// The lower of the number found so far, if there is one, and the next.
+pub fn lower(found: Option<u16>, number: u16) -> u16
+    ensures { result ≡ lower found number }
 {
-    if found == 0 {
-        return number;
+    match found {
+        Some(lowest) => lowest.min(number),
+        None => number,
     }
-    if number < found {
-        return number;
-    }
-    found
 }
 
-// The link test where there is such a link. 16 is judged on the way: each number is below that of the notice after it (`above`, at first more than any number),
-// the first one above 0, and each notice is such as filing accepts. The places that are not in use come last. Where all are in use nothing is left to judge, and
-// no array is copied for it.
-pub fn in_one_pass(book: Book, stage: u8, switch: u16, code: u8) -> Link
-    requires { (1 ≤ book.n) × (book.n ≤ 12) × (stage < book.n) × (switch < size book.n) × (code < 3) }
-    ensures { Tests book stage switch code result }
+// Whether a number does not lie below that of the next notice, if there is one.
+fn out_of_order(number: u16, next: Option<u16>) -> bool
+    ensures { result ≡ out_of_order number next }
 {
-    let n = book.n;
+    match next {
+        Some(next) => next <= number,
+        None => false,
+    }
+}
+
+// Whether a notice is out of order before the next one, or one that filing refuses.
+fn misplaced(fabric: Fabric, x: Notice, next: Option<u16>) -> bool
+    ensures { result ≡ (out_of_order x.number next || unfit fabric.n x) }
+{
+    out_of_order(x.number, next) || targets::unfit(fabric, x)
+}
+
+// The link test where there is such a link. 16 is judged on the way: each number lies below that of the notice after it, the first one above 0, and each notice
+// is such as filing accepts. The places that are not in use come last.
+pub fn in_one_pass(book: &Book, stage: u8, switch: u16, code: u8) -> Result<Option<u16>, Refusal>
+    requires { (1 ≤ book.now.n) × (book.now.n ≤ 12) × (stage < book.now.n) × (switch < size book.now.n) × (code < 3) }
+    ensures { Tests book.now stage switch code result }
+{
+    let fabric = Fabric { n: book.n };
     let count = book.count;
     if 48 < count {
-        return Link::Refused(Refusal::Book);
+        return Err(Refusal::Book);
     }
-    let end = fabric::landing(n, stage, code, switch);
-    let notices = book.notices;
-    let mut lowest = 0;
-    let mut above: u32 = 65536;
-    let mut left = count;
-    while 0 < left {
-        left -= 1;
-        let x = notices[left];
-        if above <= x.number as u32 {
-            return Link::Refused(Refusal::Book);
+    let end = fabric.landing(stage, code, switch);
+    let mut lowest = None;
+    let mut next = None;
+    for x in book.notices[..count].iter().rev() {
+        if misplaced(fabric, *x, next) {
+            return Err(Refusal::Book);
         }
-        if targets::unfit(n, x) {
-            return Link::Refused(Refusal::Book);
-        }
-        above = x.number as u32;
-        if targets::names(x, stage, switch, code, end) {
-            lowest = lower(lowest, x.number);
+        next = Some(x.number);
+        if targets::names(*x, stage, switch, code, end) {
+            lowest = Some(lower(lowest, x.number));
         }
     }
-    if above == 0 {
-        return Link::Refused(Refusal::Book);
+    if out_of_order(0, next) || damage::littered(&book.notices[count..]) {
+        return Err(Refusal::Book);
     }
-    if count == 48 {
-        return answer(lowest);
-    }
-    if damage::littered(notices, count) {
-        return Link::Refused(Refusal::Book);
-    }
-    answer(lowest)
+    Ok(lowest)
 }

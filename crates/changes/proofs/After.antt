@@ -1,4 +1,6 @@
 -- The book after a sheet's first actions: how it comes about, that there is one, and that it is sound.
+use Rattle.std.specs.Prelude.{Ok}
+use Rattle.actions.specs.Format.{ActionRead}
 use mathlib.Core.Path.{◌≡◌, refl, sym, ap, ap₂, subst, ◌∙◌}
 use mathlib.Core.Bool.{false}
 use mathlib.Core.List.{List, [], ◌++◌}
@@ -10,7 +12,7 @@ use Rattle.book.specs.declared.Book.{Book}
 use Rattle.book.specs.declared.Kept.{Kept}
 use Rattle.book.specs.Standing.{standing, book_of, Sound}
 use Rattle.book.specs.Entries.{opened, Opens, Files, Withdraws}
-use Rattle.book.proofs.Filings.{standing_of}
+use Rattle.book.proofs.Filings.{standing_of, size_passes}
 use Rattle.actions.specs.declared.Action.{Action}
 use Rattle.actions.specs.Entries.{ReadsAction}
 use Rattle.actions.proofs.Actions.{action_once}
@@ -18,7 +20,7 @@ use Rattle.sheet.specs.Entries.{part_of}
 use Rattle.changes.specs.Runs.{Change, run}
 use Rattle.changes.specs.After.{changes_of, Changes, Changes.none, Changes.more, After}
 use Rattle.changes.proofs.Changes.{opens_leaves, files_change, withdraws_change, Good}
-use Rattle.changes.proofs.Sounds.{size_passes, good_is_sound, good_places}
+use Rattle.changes.proofs.Sounds.{good_is_sound, good_places}
 use Rattle.changes.proofs.Reach.{good_run, opened_good, opened_is}
 use Rattle.changes.proofs.Since.{run_on}
 
@@ -45,7 +47,7 @@ starts_empty sheet n b fits w =
     (ap (λ (c : Book). c.n) e, ap standing e ∙ standing_of n [])
 
 -- an action more: its changes are made
-pub after_more : {sheet : List ℕ} {n k : ℕ} {b : Book} {a : Action} → After sheet n k b → ReadsAction (part_of sheet k) a → After sheet n (suc k) (run (changes_of a) b)
+pub after_more : {sheet : List ℕ} {n k : ℕ} {b : Book} {a : ActionRead} → After sheet n k b → ReadsAction (part_of sheet k) a → After sheet n (suc k) (run (changes_of a) b)
 after_more {n = n} {a = a} w r =
     record {
       changes = w.changes ++ changes_of a;
@@ -54,11 +56,11 @@ after_more {n = n} {a = a} w r =
     }
 
 -- what file and withdraw leave is what the action's changes leave
-pub files_leave : (b : Book) (x : Notice) (r : Kept) → Files b x r → r.book ≡ run (changes_of (Action.File x)) b
+pub files_leave : (b : Book) (x : Notice) (r : Kept) → Files b x r → r.book ≡ run (changes_of (Ok (Action.File x))) b
 unfolding run
 files_leave b x r p = (files_change b x r p).1
 
-pub withdraws_leave : (b : Book) (k : ℕ) (r : Kept) → Withdraws b k r → r.book ≡ run (changes_of (Action.Withdraw k)) b
+pub withdraws_leave : (b : Book) (k : ℕ) (r : Kept) → Withdraws b k r → r.book ≡ run (changes_of (Ok (Action.Withdraw k))) b
 unfolding run
 withdraws_leave b k r p = (withdraws_change b k r p).1
 

@@ -1,36 +1,26 @@
 -- One filing or withdrawing of a book that is as accepted changes make it: when it is accepted, and what stands after it.
 use mathlib.Core.Path.{◌≡◌, refl, sym, ap, subst, ◌∙◌}
-use mathlib.Core.Bool.{false, ◌||◌}
+use mathlib.Core.Bool.{false}
 use mathlib.Core.List.{List, [], Memᴰ}
 use mathlib.Core.Logic.{◌⊎◌, inl, inr, ⊎_elim}
-use Prim.Native.Nat.{ℕ, suc, ◌-◌, ◌≤◌, ◌<◌}
+use Prim.Native.Nat.{ℕ, suc, ◌≤◌, ◌<◌}
 use native.Mathlib.Omega.{arith}
-use borrow.Author.Tests.{eqb-false, leb-false, le-ltb}
+use borrow.Author.Tests.{eqb-false, leb-false}
 use lib.ListN.{length, get_or}
-use Rattle.table.proofs.Checks.{neither_of, given_refuses, passed_accepts, given_or_passed, passed_nth, zero_one}
+use Rattle.table.proofs.Checks.{given_refuses, passed_accepts, given_or_passed, passed_nth, zero_one}
 use Rattle.table.specs.Reply.{Reply, refused, answer_says}
-use Rattle.table.specs.Checks.{Given, Passed, ◌when◌, ◌below◌}
-use Rattle.fabric.specs.Labels.{outside_sizes}
+use Rattle.table.specs.Checks.{Given, Passed, ◌when◌}
 use Rattle.notices.specs.declared.Notice.{Notice}
 use Rattle.book.specs.declared.Book.{Book}
 use Rattle.notices.specs.Notices.{unfit}
 use Rattle.notices.proofs.Fit.{all_pass}
-use Rattle.standing.specs.Rising.{insert, without, Filed, misfiled, littered}
-use Rattle.book.specs.Standing.{standing, unused, book_of, unsound}
+use Rattle.standing.specs.Rising.{insert, without, Filed}
+use Rattle.book.specs.Standing.{standing, book_of}
 use Rattle.book.specs.declared.Kept.{Kept}
 use Rattle.book.specs.Entries.{opened, Opens, Files, Withdraws, file_checks}
-use Rattle.book.proofs.Filings.{standing_of, unused_of}
+use Rattle.book.proofs.Filings.{standing_of}
 use Rattle.changes.specs.Runs.{Change, change_checks, changed, answer, after, Accepted}
-use Rattle.standing.proofs.Filings.{filed_passes, filler_unlittered}
 use Rattle.standing.proofs.Members.{insert_filed, insert_length, insert_member, insert_has, insert_keeps, without_filed, without_length, without_member, without_keeps}
-
-pub sound_of : (n : ℕ) (l : List Notice) → outside_sizes n ≡ false → Filed (unfit n) 0 l → length l ≤ 48 → unsound (book_of n l) ≡ false
-sound_of n l size f h =
-    neither_of (outside_sizes n || 48 below length l || misfiled (unfit n) 0 (standing (book_of n l))) (littered (unused (book_of n l)))
-    (neither_of (outside_sizes n || 48 below length l) (misfiled (unfit n) 0 (standing (book_of n l)))
-    (neither_of (outside_sizes n) (48 below length l) size (le-ltb 48 (length l) h))
-    (ap (misfiled (unfit n) 0) (standing_of n l) ∙ filed_passes (unfit n) 0 l f))
-    (ap littered (unused_of n l) ∙ filler_unlittered (48 - length l))
 
 -- the runs of the theorems are runs of the entries: what an entry answers and leaves is what its change answers and leaves
 pub opens_leaves : (n : ℕ) (r : Kept) → Opens n r → r.book ≡ opened n
@@ -77,7 +67,7 @@ left a b k g = (
 taken_or_left : (a : Change) (b : Book) → Taken a b ⊎ Left a b
 taken_or_left a b = ⊎_elim (λ g. inr (left a b g.0 g.1)) (λ p. inl (taken a b p)) (given_or_passed (change_checks a b))
 
--- "a change that was refused hands the book back as given"
+-- "a refused change gives the book back unchanged"
 pub refused_keeps : (a : Change) (b : Book) → (Accepted a b → ⊥) → after a b ≡ b
 refused_keeps a b h = ⊎_elim (λ w. absurd (h w.0)) (λ w. w.1) (taken_or_left a b)
 

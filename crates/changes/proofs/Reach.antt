@@ -22,11 +22,10 @@ use Rattle.standing.specs.Rising.{stands, insert, Filed, Distinct}
 use Rattle.book.specs.Standing.{standing, book_of, unsound}
 use Rattle.book.specs.Entries.{open_checks, opened, file_checks}
 use Rattle.changes.specs.Runs.{Change, after, Accepted, run, AllAccepted, Reachable}
-use Rattle.book.proofs.Filings.{sound_if}
-use Rattle.book.proofs.Filings.{standing_of, length_standing}
-use Rattle.changes.proofs.Sounds.{size_passes, whole}
+use Rattle.book.proofs.Filings.{sound_if, sound_of, size_passes, standing_of, length_standing}
+use Rattle.changes.proofs.Sounds.{whole}
 use Rattle.standing.proofs.Members.{Within, all_above, none_bad, one_number, filed_distinct, stands_member, insert_filed, insert_length, insert_member, insert_has, insert_keeps, within_length, same_notices}
-use Rattle.changes.proofs.Changes.{sound_of, Good, good_of, good_after, taken}
+use Rattle.changes.proofs.Changes.{Good, good_of, good_after, taken}
 
 pub good_run : (n : ℕ) (changes : List Change) (b : Book) → Good n b → Good n (run changes b)
 unfolding run
@@ -43,7 +42,7 @@ opened_good n = good_of n [] tt (omega arith)
 pub opened_is : (n : ℕ) → outside_sizes n ≡ false → opened n ≡ book_of n []
 opened_is n size = rw size
 
--- "a book of size 0 with no notices, which every entry over a book answers with 16"
+-- "a book of size 0 without notices, to which every entry over a book says 16"
 pub refused_opening_unsound : (n : ℕ) → outside_sizes n ≡ true → unsound (opened n) ≡ true
 refused_opening_unsound n size = rw size
 
@@ -53,7 +52,7 @@ opens_size n true e h =
     absurd (zero_one cc)
 opens_size n false e h = e
 
--- "a book that an accepted opening, filing and withdrawing cannot produce": one that they produce passes
+-- "a book to which no accepted opening, filings and withdrawals lead": one that they produce passes
 pub reachable_sound : (b : Book) → Reachable b → unsound b ≡ false
 reachable_sound b r =
     let size = opens_size r.n (outside_sizes r.n) refl r.opens in

@@ -1,5 +1,6 @@
 -- Demand 3 for the book. After any run of filings and withdrawings from a newly opened book, refused ones among them, exactly
 -- those notices stand that were accepted and not withdrawn since; and the book is that into which only they were filed.
+use Rattle.std.specs.Prelude.{Ok, Some, None}
 use mathlib.Core.Path.{◌≡◌, refl, sym, ap, subst, ◌∙◌}
 use mathlib.Core.Bool.{Bool, true, false}
 use mathlib.Core.List.Memᴰ
@@ -15,12 +16,11 @@ use Rattle.table.specs.Checks.{Passed, Passed.none, Passed.passes}
 use Rattle.fabric.specs.Labels.{size, outside_sizes}
 use Rattle.notices.specs.declared.Notice.{Notice}
 use Rattle.book.specs.declared.Book.{Book}
-use Rattle.questions.specs.declared.Link.{Link}
 use Rattle.notices.specs.Notices.{names, unfit}
 use Rattle.standing.specs.Picked.{LowestNumber}
 use Rattle.book.specs.Standing.{standing, book_of, StopsLink, stopper}
 use Rattle.book.specs.Entries.{opened}
-use Rattle.questions.specs.Entries.{link_checks, Tests}
+use Rattle.questions.specs.Entries.{link_checks, Tests, Link}
 use Rattle.changes.specs.Runs.{NamesSince, NamedSince, Change, after, Accepted, run, AllAccepted, NotWithdrawn, StandsSince}
 use Rattle.standing.specs.Rising.{Filed, Distinct}
 use Rattle.standing.proofs.Members.{filed_distinct}
@@ -92,7 +92,7 @@ stands_exactly n changes x =
       (λ s. since_stands o.0 x changes (opened n) g s),
     )
 
--- the book after a run, and "At most 48 notices stand at once."
+-- the book after a run, and "A book has room for 48 notices standing together."
 run_good : (n : ℕ) (changes : List Change) → (m : ℕ) × Good m (run changes (opened n))
 run_good n changes = let o = newly_opened n in (o.0, good_run o.0 changes (opened n) (rw o.1 (opened_good o.0)))
 
@@ -129,16 +129,16 @@ module _ (n : ℕ) (legal : outside_sizes n ≡ false) (changes : List Change) (
   stopped : (x : Notice) → NamesSince n changes i j c x → StopsLink end.n (standing end) i j c x
   stopped x w = ((stands_exactly n changes x).1 w.0, subst (λ (m : ℕ). names m x i j c ≡ true) (sym same_size) w.1)
 
-  -- "the lowest number among the notices that stop the link, or clear": of those that were accepted and not withdrawn since
+  -- "clear, or the lowest number of a notice that stops the link": of those that were accepted and not withdrawn since
   pub link_exactly : Tests end i j c r
-      → ((r ≡ Link.Clear) × (NamedSince n changes i j c → ⊥)) ⊎ ((k : ℕ) × (r ≡ Link.Stopped k) × LowestNumber (NamesSince n changes i j c) k)
+      → ((r ≡ Ok None) × (NamedSince n changes i j c → ⊥)) ⊎ ((k : ℕ) × (r ≡ Ok (Some k)) × LowestNumber (NamesSince n changes i j c) k)
   link_exactly t = go (stopper end.n (standing end) i j c) refl
     where
       filed : Filed (unfit end.n) 0 (standing end)
       filed = subst (λ (m : ℕ). Filed (unfit m) 0 (standing end)) (sym same_size) end_good.filed
 
       go : (k : ℕ) → stopper end.n (standing end) i j c ≡ k
-          → ((r ≡ Link.Clear) × (NamedSince n changes i j c → ⊥)) ⊎ ((k : ℕ) × (r ≡ Link.Stopped k) × LowestNumber (NamesSince n changes i j c) k)
+          → ((r ≡ Ok None) × (NamedSince n changes i j c → ⊥)) ⊎ ((k : ℕ) × (r ≡ Ok (Some k)) × LowestNumber (NamesSince n changes i j c) k)
       go zero e =
           let none = (stopper_none end.n i j c (standing end) filed).0 e in
           inl (t.clear passed none, λ w. let v = stopped w.0 w.1 in none (w.0, v.0, v.1))
@@ -146,8 +146,8 @@ module _ (n : ℕ) (legal : outside_sizes n ≡ false) (changes : List Change) (
           let low = (stopper_exactly end.n i j c (suc k) (standing end) filed).1 (e, omega arith) in
           inr (suc k, t.stopped passed (suc k) low, lowest_number_as named stopped low)
 
-  -- "the stopped links are exactly those named by notices accepted and not withdrawn since"
-  pub stopped_exactly : Tests end i j c r → ((k : ℕ) × (r ≡ Link.Stopped k)) ↔ NamedSince n changes i j c
+  -- "a link is stopped exactly where a notice names it that was accepted and has not been withdrawn since"
+  pub stopped_exactly : Tests end i j c r → ((k : ℕ) × (r ≡ Ok (Some k))) ↔ NamedSince n changes i j c
   stopped_exactly t = (
     (λ v. ⊎_elim (λ w. let e = w.0 in let f = v.1 in absurd (zero_one cc)) (λ w. (w.2.notice, w.2.among)) (link_exactly t)),
     (λ v. ⊎_elim (λ w. absurd (w.1 v)) (λ w. (w.0, w.1)) (link_exactly t)),

@@ -1,12 +1,8 @@
 -- A sound book stays sound: what is opened is sound, and so is what a filing or withdrawing of a sound book leaves.
 use mathlib.Core.Path.{◌≡◌, sym, ap, ap₂, subst, ◌∙◌}
-use mathlib.Core.Bool.{false}
 use mathlib.Core.List.{List, ◌++◌}
 use Prim.Native.Nat.{ℕ, ◌-◌, ◌≤◌}
-use borrow.Author.Tests.{le-ltb}
 use lib.ListN.{length, replicate}
-use Rattle.table.proofs.Checks.{neither_of}
-use Rattle.fabric.specs.Labels.{outside_sizes}
 use Rattle.notices.specs.declared.Notice.{Notice}
 use Rattle.notices.specs.Notices.{unfit}
 use Rattle.standing.specs.Rising.{filler, in_places, Filed}
@@ -15,10 +11,6 @@ use Rattle.book.specs.declared.Book.{Book}
 use Rattle.book.specs.Standing.{standing, book_of, Sound}
 use Rattle.book.proofs.Filings.{standing_of, unused_of, length_standing, split}
 use Rattle.changes.proofs.Changes.{Good}
-
--- the sizes of 01, as the test of them says
-pub size_passes : (n : ℕ) → 1 ≤ n → n ≤ 12 → outside_sizes n ≡ false
-size_passes n some few = neither_of _ _ (le-ltb n 1 some) (le-ltb 12 n few)
 
 -- a sound book is the book of what stands in it
 pub whole : (b : Book) → Sound b → length b.notices ≡ 48 → book_of b.n (standing b) ≡ b

@@ -1,4 +1,4 @@
--- Document 01, 'Notices' and 'How much the promises must say': runs of filings and withdrawals from an opened book.
+-- docs/RULES.md, 'The book' and 'What the user demands': runs of filings and withdrawals from an opened book.
 use Rattle.std.specs.Prelude.{◌≡◌, true, List, [], ◌∷◌, ◌++◌, ℕ}
 use Rattle.table.specs.Reply.{Reply, refused}
 use Rattle.table.specs.Checks.{Check, checked}

@@ -1,2 +1,2 @@
-// Document 01, 'What the user demands': runs of filings and withdrawals. There is no code here.
+// docs/RULES.md, 'What the user demands': runs of filings and withdrawals. There is no code here.
 #![tactic(auto)]

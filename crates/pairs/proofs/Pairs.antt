@@ -16,8 +16,7 @@ use Rattle.table.proofs.Checks.{given_refuses, passed_accepts, given_or_passed, 
 use Rattle.packing.specs.Packed.{packed}
 use Rattle.packing.proofs.Once.{tells_all, tells_once}
 use Rattle.book.specs.declared.Book.{Book}
-use Rattle.routes.specs.declared.Found.{Found}
-use Rattle.routes.specs.Routed.{route_says, Routes}
+use Rattle.routes.specs.Routed.{route_says, Routes, Found}
 use Rattle.routes.proofs.Entries.{route_once}
 use Rattle.pairs.specs.Answered.{source_of, destination_of, Answered}
 use Rattle.pairs.specs.Pairs.{pairs_in, left_over, pairs_checks, RoutesPairs}
@@ -29,7 +28,7 @@ pairs_order pairs memory = refl
 pub labels_in_order : (s d t e : ℕ) (pairs : List ℕ) → (source_of (s ∷ d ∷ t ∷ e ∷ pairs) 1 ≡ t) × (destination_of (s ∷ d ∷ t ∷ e ∷ pairs) 1 ≡ e)
 labels_in_order s d t e pairs = (refl, refl)
 
--- "lent memory too short": what passes is so many pairs, and as many answers or more
+-- "the lent memory is not long enough": what passes is so many pairs, and as many answers or more
 pub pairs_pass : (pairs memory : List ℕ) → Passed (pairs_checks pairs memory) ↔ ((length pairs ≡ 2 * pairs_in pairs) × (pairs_in pairs ≤ length memory))
 pairs_pass pairs memory = (to, from)
   where

@@ -14,7 +14,7 @@ pairs_in pairs = length pairs / 2
 abbrev pub left_over : List ℕ → ℕ
 left_over pairs = length pairs % 2
 
--- 13: a source without a destination, or "lent memory too short", fewer answers than pairs: `pairs_pass` says what passes
+-- 13: a source without a destination, or "the lent memory is not long enough", fewer answers than pairs: `pairs_pass` says what passes
 abbrev pub pairs_checks : List ℕ → List ℕ → List Check
 pairs_checks pairs memory = (13 when (not (eqb (left_over pairs) 0) || length memory below pairs_in pairs)) ∷ []
 

@@ -1,4 +1,5 @@
 -- What the link test and the listing check, in which order, and what passes; what they say, and which memory is left.
+use Rattle.std.specs.Prelude.{Ok, Err, Some, None}
 use mathlib.Core.Path.{◌≡◌, refl, sym, ap, ◌∙◌}
 use mathlib.Core.Bool.{true, false}
 use mathlib.Core.List.{List, [], ◌∷◌, ◌++◌}
@@ -27,16 +28,14 @@ use Rattle.book.specs.Entries.{opened}
 use Rattle.book.proofs.Filings.{sound_if}
 use Rattle.book.proofs.Stoppers.{stopper_exactly}
 use Rattle.book.proofs.Entries.{stops_exactly}
-use Rattle.questions.specs.declared.Link.{Link}
-use Rattle.questions.specs.declared.Listing.{Listing}
-use Rattle.questions.specs.Entries.{link_says, listing_says, link_checks, Tests, listing_checks, Lists}
+use Rattle.questions.specs.Entries.{Link, Listing, link_says, listing_says, link_checks, Tests, listing_checks, Lists}
 
 module _ (b : Book) (i j c : ℕ) where
-  -- "link stopped or not: 16, 4, 12."
+  -- "Link test (book, stage, switch, code): 16, 4, 12."
   pub link_order : numbers (link_checks b i j c) ≡ 16 ∷ 4 ∷ 12 ∷ []
   link_order = refl
 
-  -- 4: "stage, column or switch outside the fabric"; 12: "a code above 2"
+  -- 4: "a stage, column or switch that the fabric does not have"; 12: "a code that is not 0, 1 or 2"
   pub link_lets_pass : Passed (link_checks b i j c) ↔ ((unsound b ≡ false) × (i < b.n) × (j < size b.n) × Code c)
   link_lets_pass = (
     (λ p.
@@ -48,8 +47,8 @@ module _ (b : Book) (i j c : ℕ) where
         passes w.0 (passes (neither_of _ _ (lt-leb b.n i w.1) (lt-leb (size b.n) j w.2)) (passes (le-ltb 2 c (omega arith)) none))),
   )
 
-  -- "The link test should answer with the lowest number among the notices that stop the link, or clear.": 0 where no standing notice names the
-  -- link, and otherwise the lowest number of one that does, which is not 0
+  -- "The link test answers clear, or the lowest number of a notice that stops the link.": 0 where no standing notice names the link, and
+  -- otherwise the lowest number of one that does, which is not 0
   pub link_says_exactly : length b.notices ≡ 48 → (r : Link) → Passed (link_checks b i j c) → Tests b i j c r
       → ((link_says r ≡ Reply.accepted (0 ∷ [])) × (Stopped b.n (standing b) i j c → ⊥))
       ⊎ ((k : ℕ) × (link_says r ≡ Reply.accepted (k ∷ [])) × (1 ≤ k) × LowestNumber (StopsLink b.n (standing b) i j c) k)
@@ -70,11 +69,11 @@ module _ (b : Book) (i j c : ℕ) where
           inr (suc k, ap link_says (t.stopped passed (suc k) low), omega arith, low)
 
 module _ (b : Book) (memory : List ℕ) where
-  -- "listing: 16, 13."
+  -- "Listing (book, memory): 16, 13."
   pub listing_order : numbers (listing_checks b memory) ≡ 16 ∷ 13 ∷ []
   listing_order = refl
 
-  -- 13: "lent memory too short", shorter than eleven bytes for each notice that stands
+  -- 13: "the lent memory is not long enough", shorter than eleven bytes for each notice that stands
   pub listing_lets_pass : Passed (listing_checks b memory) ↔ ((unsound b ≡ false) × (11 * length (standing b) ≤ length memory))
   listing_lets_pass = (
     (λ p. (passed_nth (listing_checks b memory) 0 p, ltb-false (length memory) (11 * length (standing b)) (passed_nth (listing_checks b memory) 1 p))),
@@ -83,15 +82,15 @@ module _ (b : Book) (memory : List ℕ) where
 
 -- every refusal comes with a number of the table
 pub link_numbered : (a : Link) → Numbered (link_says a)
-link_numbered Link.Clear = tt
-link_numbered (Link.Stopped k) = tt
-link_numbered (Link.Refused why) = above_zero why
+link_numbered (Ok None) = tt
+link_numbered (Ok (Some k)) = tt
+link_numbered (Err why) = above_zero why
 
 pub listing_numbered : (a : Listing) → Numbered (listing_says a)
-listing_numbered (Listing.Listed count) = tt
-listing_numbered (Listing.Refused why) = above_zero why
+listing_numbered (Ok count) = tt
+listing_numbered (Err why) = above_zero why
 
--- the listing: "eleven bytes each", "at the front; the rest stays. It answers how many there are."
+-- the listing: "the eleven bytes of its filing", "They lie at the front of the memory, and what follows them is left. The answer is their count."
 module _ (b : Book) (before after : List ℕ) (r : Listing) (lists : Lists b before after r) where
   pub listed_exactly : Passed (listing_checks b before)
       → (listing_says r ≡ Reply.accepted (length (standing b) ∷ []))
@@ -106,12 +105,12 @@ module _ (b : Book) (before after : List ℕ) (r : Listing) (lists : Lists b bef
         ap (drop (11 * length (standing b))) left ∙ drop_at (rows 11 (standing b)) (drop (11 * length (standing b)) before) (11 * length (standing b)) l,
       )
 
-  pub refused_listing_writes_nothing : (why : Refusal) → r ≡ Listing.Refused why → after ≡ before
+  pub refused_listing_writes_nothing : (why : Refusal) → r ≡ Err why → after ≡ before
   refused_listing_writes_nothing why e =
       let g = refused_given (listing_checks b before) (length (standing b) ∷ []) (number_of why) (sym (ap listing_says e) ∙ lists.says) in
       lists.leaves ∙ given_refuses (λ k. before) (rows 11 (standing b) ++ drop (11 * length (standing b)) before) (number_of why) (listing_checks b before) g
 
--- of the book that a refused opening hands back: "which every entry over a book answers with 16"
+-- of the book that a refused opening hands back: "to which every entry over a book says 16"
 pub refused_opening_asked : (n i j c : ℕ) (memory : List ℕ) → outside_sizes n ≡ true → Given 16 (link_checks (opened n) i j c) × Given 16 (listing_checks (opened n) memory)
 refused_opening_asked n i j c memory size =
     let u : unsound (opened n) ≡ true = rw size in

@@ -1,4 +1,5 @@
 -- No second answer: whatever meets an entry's promise is one and the same, for good and refused input alike.
+use Rattle.std.specs.Prelude.{Ok, Err, Some, None}
 use mathlib.Core.Path.{◌≡◌, sym, ap, ◌∙◌}
 use mathlib.Core.List.{List}
 use mathlib.Core.Logic.{⊎_elim}
@@ -9,9 +10,7 @@ use Rattle.table.specs.Numbers.{number_of}
 use Rattle.table.specs.Reply.{refused}
 use Rattle.table.proofs.Numbers.{number_tells}
 use Rattle.book.specs.declared.Book.{Book}
-use Rattle.questions.specs.declared.Link.{Link}
-use Rattle.questions.specs.declared.Listing.{Listing}
-use Rattle.questions.specs.Entries.{link_says, listing_says, link_checks, Tests, Lists}
+use Rattle.questions.specs.Entries.{Link, Listing, link_says, listing_says, link_checks, Tests, Lists}
 use Rattle.questions.proofs.Testing.{tests_answers}
 
 one_refusal : (v w : Refusal) → refused (number_of v) ≡ refused (number_of w) → v ≡ w
@@ -19,17 +18,17 @@ one_refusal v w e = let n : number_of v ≡ number_of w = cc in number_tells v w
 
 -- answers to the link test that say one number of the table are one answer
 pub link_tells : (a b : Link) (k : ℕ) → link_says a ≡ refused k → link_says b ≡ refused k → a ≡ b
-link_tells Link.Clear b k e f = absurd (zero_one cc)
-link_tells (Link.Stopped m) b k e f = absurd (zero_one cc)
-link_tells (Link.Refused v) Link.Clear k e f = absurd (zero_one cc)
-link_tells (Link.Refused v) (Link.Stopped m) k e f = absurd (zero_one cc)
-link_tells (Link.Refused v) (Link.Refused w) k e f = let z : number_of v ≡ number_of w = cc in ap Link.Refused (number_tells v w z)
+link_tells (Ok None) b k e f = absurd (zero_one cc)
+link_tells (Ok (Some m)) b k e f = absurd (zero_one cc)
+link_tells (Err v) (Ok None) k e f = absurd (zero_one cc)
+link_tells (Err v) (Ok (Some m)) k e f = absurd (zero_one cc)
+link_tells (Err v) (Err w) k e f = let z : number_of v ≡ number_of w = cc in ap Err (number_tells v w z)
 
 pub listing_tells : (a b : Listing) → listing_says a ≡ listing_says b → a ≡ b
-listing_tells (Listing.Listed j) (Listing.Listed k) e = let q : j ≡ k = cc in ap Listing.Listed q
-listing_tells (Listing.Listed j) (Listing.Refused w) e = absurd (zero_one cc)
-listing_tells (Listing.Refused v) (Listing.Listed k) e = absurd (zero_one cc)
-listing_tells (Listing.Refused v) (Listing.Refused w) e = ap Listing.Refused (one_refusal v w e)
+listing_tells (Ok j) (Ok k) e = let q : j ≡ k = cc in ap Ok q
+listing_tells (Ok j) (Err w) e = absurd (zero_one cc)
+listing_tells (Err v) (Ok k) e = absurd (zero_one cc)
+listing_tells (Err v) (Err w) e = ap Err (one_refusal v w e)
 
 pub tests_once : (b : Book) (i j c : ℕ) (q r : Link) → Tests b i j c q → Tests b i j c r → q ≡ r
 tests_once b i j c q r p s =

@@ -1,10 +1,11 @@
 -- The link test by the stopper: what it answers past its checks is clear where the stopper is 0, and otherwise the stopper.
-use mathlib.Core.Path.{◌≡◌, refl, ap, ◌∙◌}
+use Rattle.std.specs.Prelude.{Ok, Some, None}
+use mathlib.Core.Path.{◌≡◌, refl, sym, ap, ◌∙◌}
 use mathlib.Core.Bool.{◌||◌}
 use Prim.Native.Nat.{ℕ, zero, suc}
 use native.Mathlib.Omega.{arith}
 use Rattle.table.specs.Checks.{Passed, ◌below◌}
-use Rattle.table.proofs.Checks.{not_given_and_passed, passed_nth, neither}
+use Rattle.table.proofs.Checks.{not_given_and_passed, passed_nth, neither, zero_one}
 use Rattle.fabric.specs.Labels.{outside_sizes}
 use Rattle.notices.specs.Notices.{unfit}
 use Rattle.standing.specs.Rising.{Filed, misfiled, littered}
@@ -12,17 +13,27 @@ use Rattle.standing.proofs.Filings.{filed_if}
 use Rattle.book.specs.declared.Book.{Book}
 use Rattle.book.specs.Standing.{standing, unused, stopper}
 use Rattle.book.proofs.Stoppers.{stopper_none, stopper_exactly}
-use Rattle.questions.specs.declared.Link.{Link}
-use Rattle.questions.specs.Entries.{link_checks, Tests}
+use Rattle.questions.specs.Entries.{Link, number_or_none, link_checks, Tests}
 
 -- the answer that a stopper makes
 abbrev pub answered : ℕ → Link
-answered zero = Link.Clear
-answered (suc k) = Link.Stopped (suc k)
+answered k = Ok (number_or_none k)
 
-pub answered_stopped : (k : ℕ) → (k ≡ 0 → ⊥) → answered k ≡ Link.Stopped k
-answered_stopped zero h = absurd (h refl)
-answered_stopped (suc k) h = refl
+-- a number that is not 0 is a number, and none is 0
+pub number_is : (k : ℕ) → (k ≡ 0 → ⊥) → number_or_none k ≡ Some k
+number_is zero h = absurd (h refl)
+number_is (suc k) h = refl
+
+pub number_given : (k m : ℕ) → number_or_none k ≡ Some m → (m ≡ k) × (m ≡ 0 → ⊥)
+number_given zero m e = absurd (zero_one cc)
+number_given (suc k) m e = let z : suc k ≡ m = cc in (sym z, λ f. absurd (omega arith))
+
+pub none_given : (k : ℕ) → number_or_none k ≡ None → k ≡ 0
+none_given zero e = refl
+none_given (suc k) e = absurd (zero_one cc)
+
+pub answered_stopped : (k : ℕ) → (k ≡ 0 → ⊥) → answered k ≡ Ok (Some k)
+answered_stopped k h = ap Ok (number_is k h)
 
 module _ (b : Book) (i j c : ℕ) where
   filed_by : Passed (link_checks b i j c) → Filed (unfit b.n) 0 (standing b)

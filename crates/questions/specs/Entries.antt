@@ -1,7 +1,7 @@
--- Document 01, 'Numbers handed back', "Entries and order of checks": link stopped or not, with document 02, §2, and listing, with document 02, §5.
-use Rattle.std.specs.Prelude.{◌≡◌, ◌||◌, List, [], ◌∷◌, ◌++◌, ℕ, ◌*◌, length, drop}
-use Rattle.table.specs.Numbers.{number_of}
-use Rattle.table.specs.Reply.{Reply, refused}
+-- docs/RULES.md, 'Entries': link stopped or not, with 'The book', and listing, with 'Classes'.
+use Rattle.std.specs.Prelude.{◌≡◌, ◌||◌, List, [], ◌∷◌, ◌++◌, ℕ, zero, suc, ◌*◌, Option, Some, None, Result, Ok, length, drop}
+use Rattle.table.specs.declared.Refusal.{Refusal}
+use Rattle.table.specs.Reply.{Reply, refused, says, alone}
 use Rattle.table.specs.Checks.{Check, Given, Passed, ◌when◌, ◌below◌, ◌not_below◌, checked}
 use Rattle.fabric.specs.Labels.{size}
 use Rattle.actions.specs.Layout.{action_length}
@@ -10,40 +10,51 @@ use Rattle.book.specs.declared.Book.{Book}
 use Rattle.standing.specs.Picked.{LowestNumber}
 use Rattle.book.specs.Standing.{standing, StopsLink, Stopped}
 use Rattle.book.specs.Entries.{book_checks}
-use Rattle.questions.specs.declared.Link.{Link}
-use Rattle.questions.specs.declared.Listing.{Listing}
 
 -- The theorems named here stand in proofs/Entries.antt, unless another file is named. `link_numbered` and `listing_numbered`: no
 -- answer has number 0.
 
 -- what an answer to the link test says: 0 where it is clear, otherwise a number, `link_says_exactly`
-abbrev pub link_says : Link → Reply
-link_says Link.Clear = Reply.accepted (0 ∷ [])
-link_says (Link.Stopped k) = Reply.accepted (k ∷ [])
-link_says (Link.Refused why) = refused (number_of why)
+abbrev pub Link : Type 0
+Link = Result (Option ℕ) Refusal
 
--- "link stopped or not: 16, 4, 12.": `link_order`, `link_lets_pass`
+abbrev pub link_value : Option ℕ → List ℕ
+link_value None = 0 ∷ []
+link_value (Some k) = k ∷ []
+
+abbrev pub link_says : Link → Reply
+link_says = says link_value
+
+-- the number that a rule gives, which is 0 for a link that it does not stop: `number_is` (proofs/Testing.antt)
+abbrev pub number_or_none : ℕ → Option ℕ
+number_or_none zero = None
+number_or_none (suc k) = Some (suc k)
+
+-- "Link test (book, stage, switch, code): 16, 4, 12.": `link_order`, `link_lets_pass`
 abbrev pub link_checks : Book → ℕ → ℕ → ℕ → List Check
 link_checks b i j c = book_checks b ++ (4 when (i not_below b.n || j not_below size b.n)) ∷ (12 when 2 below c) ∷ []
 
--- "The link test should answer with the lowest number among the notices that stop the link, or clear.", and it counts "all notices": `link_says_exactly`; `tests_answers` and
--- `answers_tests` (proofs/Testing.antt) say it by the stopper
+-- "The link test answers clear, or the lowest number of a notice that stops the link.", and for it "every notice counts": `link_says_exactly`; `tests_answers`
+-- and `answers_tests` (proofs/Testing.antt) say it by the stopper
 pub record Tests (b : Book) (i j c : ℕ) (r : Link) : Type 0 where
   pub refuses : (k : ℕ) → Given k (link_checks b i j c) → link_says r ≡ refused k
-  pub stopped : Passed (link_checks b i j c) → (k : ℕ) → LowestNumber (StopsLink b.n (standing b) i j c) k → r ≡ Link.Stopped k
-  pub clear : Passed (link_checks b i j c) → (Stopped b.n (standing b) i j c → ⊥) → r ≡ Link.Clear
+  pub stopped : Passed (link_checks b i j c) → (k : ℕ) → LowestNumber (StopsLink b.n (standing b) i j c) k → r ≡ Ok (Some k)
+  pub clear : Passed (link_checks b i j c) → (Stopped b.n (standing b) i j c → ⊥) → r ≡ Ok None
 
 -- what an answer to the listing says: `listed_exactly`
-abbrev pub listing_says : Listing → Reply
-listing_says (Listing.Listed count) = Reply.accepted (count ∷ [])
-listing_says (Listing.Refused why) = refused (number_of why)
+abbrev pub Listing : Type 0
+Listing = Result ℕ Refusal
 
--- "listing: 16, 13.": too short is shorter than "eleven bytes each"; `listing_order`, `listing_lets_pass`
+abbrev pub listing_says : Listing → Reply
+listing_says = says alone
+
+-- "Listing (book, memory): 16, 13.": too short is shorter than "the eleven bytes of its filing"; `listing_order`, `listing_lets_pass`
 abbrev pub listing_checks : Book → List ℕ → List Check
 listing_checks b memory = book_checks b ++ (13 when length memory below action_length 2 * length (standing b)) ∷ []
 
--- "Standing notices by rising number, .. each as filing actions, at the front; the rest stays. It answers how many there are.", and "The listing writes
--- eleven bytes each, class last": `listed_exactly`, `refused_listing_writes_nothing`. `listed_rising` (book/proofs/Filings.antt) says that they stand by rising number.
+-- "the notices that stand, the lowest number first, each as the eleven bytes of its filing, the class at the end. They lie at the front of the memory, and what
+-- follows them is left. The answer is their count.": `listed_exactly`, `refused_listing_writes_nothing`. `listed_rising` (book/proofs/Filings.antt) says that
+-- they stand by rising number.
 pub record Lists (b : Book) (before after : List ℕ) (r : Listing) : Type 0 where
   pub says : listing_says r ≡ checked (listing_checks b before) refused (Reply.accepted (length (standing b) ∷ []))
   pub leaves : after ≡ checked (listing_checks b before) (λ k. before) (rows (action_length 2) (standing b) ++ drop (action_length 2 * length (standing b)) before)

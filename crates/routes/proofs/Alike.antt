@@ -1,4 +1,6 @@
 -- What a route depends on: its tag or stage on which links are stopped, the number that it names on the notices.
+use Rattle.std.specs.Prelude.{Ok, Err}
+use Rattle.routes.specs.declared.NoRoute.{NoRoute}
 use mathlib.Core.Path.{◌≡◌, refl, sym, ap, ap₂, subst, ◌∙◌}
 use mathlib.Core.Bool.{Bool, false, ◌||◌}
 use mathlib.Core.List.{List, [], ◌∷◌, Memᴰ}
@@ -22,8 +24,7 @@ use Rattle.standing.proofs.Members.{same_notices}
 use Rattle.book.specs.declared.Book.{Book}
 use Rattle.book.specs.Standing.{standing, unsound, stopper, counted, counted_stops}
 use Rattle.book.proofs.Filings.{sound_if}
-use Rattle.routes.specs.declared.Found.{Found}
-use Rattle.routes.specs.Routed.{Routed, route_checks, Routes, SameTagOrStage}
+use Rattle.routes.specs.Routed.{Routed, route_checks, Routes, SameTagOrStage, Found}
 use Rattle.routes.proofs.Once.{found_tells, routed_once, same_itself}
 
 module _ (n s d : ℕ) (f g : Rule) (same : Alike f g) where
@@ -39,7 +40,7 @@ module _ (n s d : ℕ) (f g : Rule) (same : Alike f g) where
   onward_back : (k : ℕ) (cs : List ℕ) → Onward n g s d k cs → Onward n f s d k cs
   onward_back k cs w = record { links = w.links; codes = w.codes; clear = (alike_clear f g same n s cs).1 w.clear; agrees = w.agrees }
 
-  tag_alike : (t : ℕ) → Routed n f s d (Found.Tag t) → Routed n g s d (Found.Tag t)
+  tag_alike : (t : ℕ) → Routed n f s d (Ok t) → Routed n g s d (Ok t)
   tag_alike t w = (w.0, record { clear_path = clear_alike w.0 w.1.clear_path; first = λ ds q e. w.1.first ds (clear_back ds q) e }, w.2)
 
   stage_alike : (i : ℕ) → StageNamed n f s d i → StageNamed n g s d i
@@ -51,21 +52,21 @@ module _ (n s d : ℕ) (f g : Rule) (same : Alike f g) where
 
   -- the same stopped links: the same tag, or the same stage
   pub routed_alike : (a b : Found) → Routed n f s d a → Routed n g s d b → SameTagOrStage a b
-  routed_alike (Found.Tag t) (Found.Tag u) p q =
-      same_itself (Found.Tag t) (Found.Tag u) (routed_once n g s d (Found.Tag t) (Found.Tag u) (tag_alike t p) q)
-  routed_alike (Found.Tag t) (Found.None j m) p q = q.0 p.0 (clear_alike p.0 p.1.clear_path)
-  routed_alike (Found.Tag t) (Found.Refused r) p q = q
-  routed_alike (Found.None i k) (Found.Tag u) p q = p.0 q.0 (clear_back q.0 q.1.clear_path)
-  routed_alike (Found.None i k) (Found.None j m) p q = stage_once n g s d i j (stage_alike i p.1) q.1
-  routed_alike (Found.None i k) (Found.Refused r) p q = q
-  routed_alike (Found.Refused r) b p q = absurd p
+  routed_alike (Ok t) (Ok u) p q =
+      same_itself (Ok t) (Ok u) (routed_once n g s d (Ok t) (Ok u) (tag_alike t p) q)
+  routed_alike (Ok t) (Err (NoRoute.NoClearPath j m)) p q = q.0 p.0 (clear_alike p.0 p.1.clear_path)
+  routed_alike (Ok t) (Err (NoRoute.Refused r)) p q = q
+  routed_alike (Err (NoRoute.NoClearPath i k)) (Ok u) p q = p.0 q.0 (clear_back q.0 q.1.clear_path)
+  routed_alike (Err (NoRoute.NoClearPath i k)) (Err (NoRoute.NoClearPath j m)) p q = stage_once n g s d i j (stage_alike i p.1) q.1
+  routed_alike (Err (NoRoute.NoClearPath i k)) (Err (NoRoute.Refused r)) p q = q
+  routed_alike (Err (NoRoute.Refused r)) b p q = absurd p
 
 -- and the number may differ: it is that of the rule
 module _ (n s d : ℕ) (f : Rule) where
   abbrev doubled : Rule
   doubled i j c = f i j c + f i j c
 
-  pub number_follows_rule : (i k : ℕ) → Routed n f s d (Found.None i k) → Routed n doubled s d (Found.None i (k + k))
+  pub number_follows_rule : (i k : ℕ) → Routed n f s d (Err (NoRoute.NoClearPath i k)) → Routed n doubled s d (Err (NoRoute.NoClearPath i (k + k)))
   number_follows_rule i k w =
       let named = w.2 in (
         (λ cs q. w.0 cs (clear_back n s d f doubled (alike_by_any_number f) cs q)),

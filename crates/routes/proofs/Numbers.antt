@@ -14,7 +14,7 @@ use Rattle.book.proofs.Stoppers.{stopper_names, stopper_lowest}
 use Rattle.routes.specs.Routed.{StopsAWay}
 
 module _ (n : ℕ) (l : List Notice) (filed : Filed (unfit n) 0 l) (s d i : ℕ) where
-  -- "the lowest number that stops any way onward": over all ways and over all notices that stop one of them
+  -- "the lowest of a notice that counts and stops a way onward": over all ways and over all notices that stop one of them
   pub number_by_notices : (k : ℕ) → NumberNamed n (stopper n l) s d i k ↔ LowestNumber (StopsAWay n l s d i) k
   number_by_notices k = (told, back)
     where

@@ -1,4 +1,6 @@
--- A walk along a tag's steps: its links so far are clear, and it ends where 01 says.
+-- A walk along a tag's steps: its links so far are clear, and it ends where docs/RULES.md says.
+use Rattle.std.specs.Prelude.{Ok, Err}
+use Rattle.walks.specs.declared.NotClear.{NotClear}
 use mathlib.Core.Path.{◌≡◌, sym, ap, ap₂, subst, ◌∙◌}
 use mathlib.Core.Bool.{Bool, cond}
 use Prim.Native.Nat.{ℕ, ◌+◌, ◌<◌}
@@ -16,8 +18,7 @@ use Rattle.scheme.specs.Scheme.{link}
 use Rattle.scheme.specs.Tags.{destination, state, steps_of}
 use Rattle.scheme.proofs.Steps.{steps_of_tag, step_on}
 use Rattle.paths.specs.Clear.{Rule, Clear}
-use Rattle.walks.specs.declared.Ended.{Ended}
-use Rattle.walks.specs.Entries.{FirstStopped, Walked}
+use Rattle.walks.specs.Entries.{FirstStopped, Walked, Ended}
 
 module _ (n : ℕ) (stops : Rule) (s tag : ℕ) where
   -- the first i links are clear
@@ -39,7 +40,7 @@ module _ (n : ℕ) (stops : Rule) (s tag : ℕ) where
 
   -- the end of the walk
   pub walk_ends : (i j : ℕ) (a : Ended) → i ≡ n → j ≡ switch_at n s (steps_of n s tag) i → ClearUpTo i
-      → a ≡ cond (eqb j (destination n tag)) Ended.Clear Ended.Astray → Walked n stops s tag a
+      → a ≡ cond (eqb j (destination n tag)) (Ok tt) (Err NotClear.Astray) → Walked n stops s tag a
   walk_ends i j a e at clear answers = go (ℕ_discrete j (destination n tag))
     where
       l : length (steps_of n s tag) ≡ n
@@ -52,5 +53,5 @@ module _ (n : ℕ) (stops : Rule) (s tag : ℕ) where
       arrives = at ∙ ap (walked n 0 s) (take_all i (steps_of n s tag) (let m = l in omega arith))
 
       go : Dec (j ≡ destination n tag) → Walked n stops s tag a
-      go (yes f) = subst (Walked n stops s tag) (sym (answers ∙ ap (λ (b : Bool). cond b Ended.Clear Ended.Astray) (eq-eqb j (destination n tag) f))) (all, sym arrives ∙ f)
-      go (no f) = subst (Walked n stops s tag) (sym (answers ∙ ap (λ (b : Bool). cond b Ended.Clear Ended.Astray) (ne_eqb j (destination n tag) f))) (all, λ x. f (arrives ∙ x))
+      go (yes f) = subst (Walked n stops s tag) (sym (answers ∙ ap (λ (b : Bool). cond b (Ok tt) (Err NotClear.Astray)) (eq-eqb j (destination n tag) f))) (all, sym arrives ∙ f)
+      go (no f) = subst (Walked n stops s tag) (sym (answers ∙ ap (λ (b : Bool). cond b (Ok tt) (Err NotClear.Astray)) (ne_eqb j (destination n tag) f))) (all, λ x. f (arrives ∙ x))

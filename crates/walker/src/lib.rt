@@ -1,71 +1,68 @@
-// Document 01, 'walk', and document 02, §2: walking a tag over the links that a book stops.
+// docs/RULES.md, 'Entries' and 'Walks': walking a tag over the links that a book stops.
 #![tactic(auto)]
 
 ghost use Rattle.std.specs.Prelude.{◌≡◌, cond, ◌≤◌, ◌<◌, eqb};
 ghost use Rattle.fabric.specs.Labels.{size};
 ghost use Rattle.scheme.specs.Tags.{destination};
-ghost use Rattle.book.specs.Standing.{Sound, stops_of};
+ghost use Rattle.book.specs.Standing.{stops_of};
 ghost use Rattle.walks.specs.Entries.{Walked, Walks};
 
-use book::Book;
+use book::{Book, SoundBook};
+use fabric::Fabric;
 use table::Refusal;
-use walks::Ended;
+use walks::NotClear;
 
-// "walk (book, source, tag): 16, 10, 12, 11, 17; otherwise clear."
-pub fn walk(book: Book, source: u16, tag: u32) -> Ended
+// "Walk (book, source, tag): 16, 10, 12, 11, 17. Past these the walk is clear."
+pub fn walk(book: Book, source: u16, tag: u32) -> Result<(), NotClear>
     ensures { Walks book source tag result }
 {
-    if book::unsound(book) {
-        return Ended::Refused(Refusal::Book);
+    if book.unsound() {
+        return Err(NotClear::Refused(Refusal::Book));
     }
-    walked(book, source, tag)
+    walked(&SoundBook { book }, source, tag)
 }
 
 // walk, over a book that 16 is not given for: 10, 12, 11, 17; otherwise clear.
-pub fn walked(book: Book, source: u16, tag: u32) -> Ended
-    requires { Sound book }
-    ensures { Walks book source tag result }
+pub fn walked(book: &SoundBook, source: u16, tag: u32) -> Result<(), NotClear>
+    ensures { Walks book.now.book source tag result }
 {
-    let n = book.n;
-    if fabric::outside_labels(n, source) {
-        return Ended::Refused(Refusal::Label);
+    let fabric = Fabric { n: book.book.n };
+    if fabric.outside_labels(source) {
+        return Err(NotClear::Refused(Refusal::Label));
     }
-    if scheme::outside_tags(n, tag) {
-        return Ended::Refused(Refusal::Tag);
+    if scheme::outside_tags(fabric, tag) {
+        return Err(NotClear::Refused(Refusal::Tag));
     }
     along(book, source, tag)
 }
 
-// The walk along the steps of a tag.
-fn along(book: Book, source: u16, tag: u32) -> Ended
-    requires { (Sound book) × (source < size book.n) }
-    ensures { Walked book.n (stops_of book) source tag result }
+// The walk along the steps of a tag: a loop that is left by break, a rule of the project (docs/RULES.md, 'Forms in the code').
+fn along(book: &SoundBook, source: u16, tag: u32) -> Result<(), NotClear>
+    requires { source < size book.now.book.n }
+    ensures { Walked book.now.book.n (stops_of book.now.book) source tag result }
 {
-    let n = book.n;
+    let fabric = Fabric { n: book.book.n };
     let mut j = source;
     let mut i = 0;
-    let ended = loop {
-        if i == n {
-            break end_at(n, j, tag);
+    loop {
+        if i == fabric.n {
+            break end_at(fabric, j, tag);
         }
-        let code = scheme::step_of(n, tag, i, j);
-        let number = asked::stopper(book, i, j, code);
-        if number != 0 {
-            break Ended::Stopped { stage: i, number };
+        let code = scheme::step_of(fabric, tag, i, j);
+        if let Some(number) = asked::stopper(book, i, j, code) {
+            break Err(NotClear::Stopped { stage: i, number });
         }
-        j = fabric::landing(n, i, code, j);
+        j = fabric.landing(i, code, j);
         i += 1;
-    };
-    ended
+    }
 }
 
 // What a walk answers that met no stopped link and ends at a label.
-fn end_at(n: u8, j: u16, tag: u32) -> Ended
-    requires { n ≤ 12 }
-    ensures { result ≡ cond (eqb j (destination n tag)) Ended.Clear Ended.Astray }
+fn end_at(fabric: Fabric, j: u16, tag: u32) -> Result<(), NotClear>
+    ensures { result ≡ cond (eqb j (destination fabric.n tag)) (Ok tt) (Err NotClear.Astray) }
 {
-    if j as u32 == tag % fabric::size(n) as u32 {
-        return Ended::Clear;
+    if u32::from(j) != tag % u32::from(fabric.size()) {
+        return Err(NotClear::Astray);
     }
-    Ended::Astray
+    Ok(())
 }

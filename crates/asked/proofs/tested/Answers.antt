@@ -1,16 +1,25 @@
--- The checks in 01's order; past them all the link is clear exactly where its stopper is 0. A sound book passes the first.
+-- The checks in their order, of which a sound book passes the first; past them all the stopper is the answer.
+use mathlib.Core.Path.{◌≡◌, ap}
+use mathlib.Core.Bool.{false}
+use Rattle.std.specs.Prelude.{Ok}
+use Rattle.table.specs.Checks.{Passed}
 use Rattle.table.proofs.Checks.{refusing, accepting}
-use Rattle.book.proofs.Filings.{sound_passes}
+use Rattle.book.specs.Standing.{unsound}
+use Rattle.questions.specs.Entries.{link_checks}
 use Rattle.questions.proofs.Answers.{link_refused}
-use Rattle.asked.proofs.Testing.{answer_tests}
-use Rattle.asked.proofs.Inside.{either_of}
+use Rattle.questions.proofs.Testing.{answers_tests}
 use Rattle.asked.proofs.tested.Goals as goal
 
-pub returns-then-either : goal.returns-then-either
-returns-then-either c = search (link_refused, refusing, either_of, sound_passes) depth 12
+pub returns-then-no_such_switch : goal.returns-then-no_such_switch
+returns-then-no_such_switch c = let sound : unsound c.args.book.now.book ≡ false = c.args.book.now.sound in search (link_refused, refusing) depth 12
 
 pub returns-then-code-gt2 : goal.returns-then-code-gt2
-returns-then-code-gt2 c = search (link_refused, refusing, either_of, sound_passes) depth 12
+returns-then-code-gt2 c = let sound : unsound c.args.book.now.book ≡ false = c.args.book.now.sound in search (link_refused, refusing) depth 12
 
 pub returns : goal.returns
-returns c = search (answer_tests, accepting, either_of, sound_passes) depth 12
+returns c =
+    let a = c.args in
+    let b = a.book.now.book in
+    let sound : unsound b ≡ false = a.book.now.sound in
+    let passed : Passed (link_checks b a.stage a.switch a.code) = search accepting depth 12 in
+    answers_tests b a.stage a.switch a.code (Ok c.stopper.result) passed (ap Ok c.stopper.ensures)

@@ -10,7 +10,8 @@ use Rattle.walker.proofs.along.Given as goal
 
 abbrev pub invariant-loop-i : goal.invariant-loop-i
 invariant-loop-i l =
-    (l.i ≤ l.n) × (l.j < size l.n) × (l.n ≡ l.book.n) × (l.j ≡ switch_at l.n l.source (steps_of l.n l.source l.tag) l.i) × ClearUpTo l.n (stops_of l.book) l.source l.tag l.i
+    let n = l.book.book.n in
+    (l.i ≤ n) × (l.j < size n) × (l.j ≡ switch_at n l.source (steps_of n l.source l.tag) l.i) × ClearUpTo n (stops_of l.book.book) l.source l.tag l.i
 
 abbrev pub decreases-loop-i : goal.decreases-loop-i
-decreases-loop-i l = l.n - l.i
+decreases-loop-i l = l.book.book.n - l.i

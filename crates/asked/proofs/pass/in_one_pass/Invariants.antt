@@ -1,16 +1,13 @@
--- The pass goes down the places, so what it holds is said of the notices from where it is on: they are judged, and the lowest number of one that
--- names the link is held. It leans on proofs/Judging.
+-- The pass goes from the last notice to the first, so what it holds is said of the notices from where it is on: they are judged, and the number of the first
+-- of them that names the link is held. It leans on proofs/Judging.
 use mathlib.Core.Path.{◌≡◌}
-use Prim.Native.Nat.{◌≤◌}
-use lib.ListN.{length, take, drop}
-use Rattle.notices.specs.Notices.{unfit}
-use Rattle.book.specs.Standing.{stopper}
-use Rattle.asked.proofs.Judging.{Judged}
+use lib.ListN.{length, take}
+use Rattle.notices.specs.Notices.{names, unfit}
+use Rattle.asked.specs.Lower.{first_number}
+use Rattle.asked.proofs.Judging.{Judged, last}
 use Rattle.asked.proofs.pass.in_one_pass.Given as goal
 
-abbrev pub invariant-loop-left : goal.invariant-loop-left
-invariant-loop-left l =
-    (l.left ≤ l.count) × (l.count ≤ length l.notices) × Judged (unfit l.n) l.above (drop l.left (take l.count l.notices)) × (l.lowest ≡ stopper l.n (drop l.left (take l.count l.notices)) l.stage l.switch l.code)
-
-abbrev pub decreases-loop-left : goal.decreases-loop-left
-decreases-loop-left l = l.left
+abbrev pub invariant-loop-x : goal.invariant-loop-x
+invariant-loop-x l =
+    Judged (unfit l.book.n) l.next (last (length l.yielded) (take l.count l.book.notices))
+    × (l.lowest ≡ first_number (λ x. names l.book.n x l.stage l.switch l.code) (last (length l.yielded) (take l.count l.book.notices)))

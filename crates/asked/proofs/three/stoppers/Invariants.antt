@@ -1,14 +1,16 @@
--- The pass goes down the places, so what it holds is said of the notices from where it is on, for each of the three links. It leans on proofs/Judging.
+-- The pass goes from the last notice to the first, so what it holds is said of the notices from where it is on, for each of the three links. It leans on
+-- proofs/Judging.
 use mathlib.Core.Path.{◌≡◌}
-use Prim.Native.Nat.{ℕ, ◌≤◌}
-use lib.ListN.{length, take, drop}
-use Rattle.book.specs.Standing.{stopper}
+use Prim.Native.Nat.{ℕ}
+use lib.ListN.{length}
+use Rattle.std.specs.Prelude.{Option}
+use Rattle.notices.specs.Notices.{names}
+use Rattle.book.specs.Standing.{standing}
+use Rattle.asked.specs.Lower.{first_number}
+use Rattle.asked.proofs.Judging.{last}
 use Rattle.asked.proofs.three.stoppers.Given as goal
 
-abbrev pub invariant-loop-left : goal.invariant-loop-left
-invariant-loop-left l =
-    let lowest : ℕ → ℕ = λ c. stopper l.book.n (drop l.left (take l.book.count l.book.notices)) l.stage l.switch c in
-    (l.left ≤ l.book.count) × (l.book.count ≤ length l.book.notices) × (l.found.straight ≡ lowest 0) × (l.found.plus ≡ lowest 1) × (l.found.minus ≡ lowest 2)
-
-abbrev pub decreases-loop-left : goal.decreases-loop-left
-decreases-loop-left l = l.left
+abbrev pub invariant-loop-x : goal.invariant-loop-x
+invariant-loop-x l =
+    let lowest : ℕ → Option ℕ = λ c. first_number (λ x. names l.book.book.n x l.stage l.switch c) (last (length l.yielded) (standing l.book.book)) in
+    (l.found.straight ≡ lowest 0) × (l.found.plus ≡ lowest 1) × (l.found.minus ≡ lowest 2)
