@@ -1,6 +1,7 @@
 // From ten bytes, or eleven, to the action.
 ghost use Rattle.std.specs.Prelude.{◌≡◌, false, ◌≤◌, length};
 ghost use Rattle.table.specs.Reply.{Reply};
+ghost use Rattle.actions.specs.Layout.{filing_of};
 ghost use Rattle.actions.specs.Format.{fields_of, with_class, field_bytes, kind_fault, filing_fault, withdrawing_fault, routing_fault, layout_fault};
 ghost use Rattle.actions.specs.Entries.{no_part, action_says, ReadsAction};
 
@@ -9,29 +10,30 @@ use actions::{ACTION_LENGTH, Action, Fields, TEN};
 use notices::{Notice, Target};
 use table::Refusal;
 
-// "action reader (a part): 13, 2; otherwise the action with its fields."
-pub fn read_action(part: &[u8]) -> Action
+// "Action reader (part): 13, 2. Past these it answers the action and its fields."
+pub fn read_action(part: &[u8]) -> Result<Action, Refusal>
     ensures { ReadsAction part.now result }
 {
     if no_part(part) {
-        return Action::Refused(Refusal::Room);
+        return Err(Refusal::Room);
     }
     let f = fields(part);
     if layout_fault(f) {
-        return Action::Refused(Refusal::Layout);
+        return Err(Refusal::Layout);
     }
-    asked(f)
+    Ok(action(f))
 }
 
-// 13: "the action reader takes both lengths"
+// 13: "A part of either length is read"
 fn no_part(part: &[u8]) -> bool
     ensures { (result ≡ no_part part.now) × (result ≡ false → (10 ≤ length part.now) × (length part.now ≤ 11)) }
 {
-    table::both(part.len() != TEN, part.len() != ACTION_LENGTH)
+    part.len() != TEN && part.len() != ACTION_LENGTH
 }
 
-// The fields of a part.
-fn fields(part: &[u8]) -> Fields
+// The fields of a part, whatever they hold.
+#[tactic(auto, using(actions::proofs::Layouts::fields_written))]
+pub fn fields(part: &[u8]) -> Fields
     requires { (10 ≤ length part.now) × (length part.now ≤ 11) }
     ensures { (result ≡ fields_of part.now) × (field_bytes result ≡ with_class part.now) }
 {
@@ -51,128 +53,86 @@ fn fields(part: &[u8]) -> Fields
 fn layout_fault(f: Fields) -> bool
     ensures { result ≡ layout_fault f }
 {
-    if f.action == 1 {
-        return filing_fault(f);
+    match f.action {
+        1 => filing_fault(f),
+        2 => withdrawing_fault(f),
+        3 => routing_fault(f),
+        _ => true,
     }
-    if f.action == 2 {
-        return withdrawing_fault(f);
-    }
-    if f.action == 3 {
-        return routing_fault(f);
-    }
-    true
 }
 
 fn kind_fault(f: Fields) -> bool
     ensures { result ≡ kind_fault f }
 {
-    if f.kind == 1 {
-        return f.mask != 0;
+    match f.kind {
+        1 => f.mask != 0,
+        2 => f.mask != 0 || f.set != 0,
+        3 => false,
+        _ => true,
     }
-    if f.kind == 2 {
-        return table::either(f.mask != 0, f.set != 0);
-    }
-    f.kind != 3
 }
 
-// "a class above 1, or not zero on a withdrawal, is 2 in bytes"
+// "In bytes a class of 2 or more is a fault, number 2, and so is any class but 0 on a withdrawal"
 fn filing_fault(f: Fields) -> bool
     ensures { result ≡ filing_fault f }
 {
-    table::either(kind_fault(f), 1 < f.class)
+    kind_fault(f) || 1 < f.class
 }
 
 fn withdrawing_fault(f: Fields) -> bool
     ensures { result ≡ withdrawing_fault f }
 {
-    let fabric = table::either(f.kind != 0, table::either(f.stage != 0, f.switch != 0));
-    let rest = table::either(f.mask != 0, table::either(f.set != 0, f.class != 0));
-    table::either(fabric, rest)
+    f.kind != 0 || f.stage != 0 || f.switch != 0 || f.mask != 0 || f.set != 0 || f.class != 0
 }
 
 fn routing_fault(f: Fields) -> bool
     ensures { result ≡ routing_fault f }
 {
-    let spare = table::either(
-        table::either(f.number != 0, f.kind != 0),
-        table::either(f.stage != 0, f.set != 0),
-    );
-    table::either(spare, 1 < f.class)
+    f.number != 0 || f.kind != 0 || f.stage != 0 || f.set != 0 || 1 < f.class
 }
 
 // The action that has these fields.
-fn asked(f: Fields) -> Action
+// No `From`: it would stand in a crate of definitions alone.
+fn action(f: Fields) -> Action
     requires { layout_fault f ≡ false }
-    ensures { action_says result ≡ Reply.accepted (field_bytes f) }
+    ensures { action_says (Ok result) ≡ Reply.accepted (field_bytes f) }
 {
-    if f.action == 1 {
-        return filed(f);
-    }
-    if f.action == 2 {
-        return Action::Withdraw(f.number);
-    }
-    Action::Route {
-        source: f.switch,
-        destination: f.mask,
-        choice: f.class,
+    match f.action {
+        1 => Action::File(Notice {
+            number: f.number,
+            target: target(f),
+            class: f.class,
+        }),
+        2 => Action::Withdraw(f.number),
+        _ => Action::Route {
+            source: f.switch,
+            destination: f.mask,
+            choice: f.class,
+        },
     }
 }
 
-// The filing action that has these fields.
-fn filed(f: Fields) -> Action
+// What a filing action that has these fields takes out of service.
+// No `From`: it would stand in a crate of definitions alone.
+fn target(f: Fields) -> Target
     requires { (f.action ≡ 1) × (kind_fault f ≡ false) }
-    ensures { action_says result ≡ Reply.accepted (field_bytes f) }
+    ensures { filing_of f.number result f.class ≡ field_bytes f }
 {
-    if f.kind == 1 {
-        return links(f);
-    }
-    if f.kind == 2 {
-        return switch(f);
-    }
-    pattern(f)
-}
-
-fn links(f: Fields) -> Action
-    requires { (f.action ≡ 1) × (f.kind ≡ 1) × (f.mask ≡ 0) }
-    ensures { action_says result ≡ Reply.accepted (field_bytes f) }
-{
-    Action::File(Notice {
-        number: f.number,
-        target: Target::Links {
+    match f.kind {
+        1 => Target::Links {
             stage: f.stage,
             switch: f.switch,
             set: f.set,
         },
-        class: f.class,
-    })
-}
-
-fn switch(f: Fields) -> Action
-    requires { (f.action ≡ 1) × (f.kind ≡ 2) × (f.mask ≡ 0) × (f.set ≡ 0) }
-    ensures { action_says result ≡ Reply.accepted (field_bytes f) }
-{
-    Action::File(Notice {
-        number: f.number,
-        target: Target::Switch {
+        2 => Target::Switch {
             column: f.stage,
             switch: f.switch,
         },
-        class: f.class,
-    })
-}
-
-fn pattern(f: Fields) -> Action
-    requires { (f.action ≡ 1) × (f.kind ≡ 3) }
-    ensures { action_says result ≡ Reply.accepted (field_bytes f) }
-{
-    Action::File(Notice {
-        number: f.number,
-        target: Target::Pattern {
+        _ => Target::Pattern {
             stage: f.stage,
             value: f.switch,
             mask: f.mask,
             set: f.set,
         },
-        class: f.class,
-    })
+    }
 }

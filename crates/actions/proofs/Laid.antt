@@ -12,12 +12,13 @@ use Rattle.notices.specs.declared.Target.{Target}
 use Rattle.notices.specs.declared.Target.TheVariants.{Links, Switch, Pattern}
 use Rattle.actions.specs.Layout.{action_length, bytes_before, action_bytes, filing_of, filing}
 
--- "Numbers are big-endian.": a number of 16 bits from place i on
+-- "In every number of two bytes the high byte comes first.": a number of 16 bits from place i on
 pub record Word (bytes : List ℕ) (i x : ℕ) : Type 0 where
   pub adds_up : get_or bytes i 0 * 256 + get_or bytes (i + 1) 0 ≡ x
   pub low_byte : get_or bytes (i + 1) 0 < 256
 
--- "action 8 bits, number 16, kind 8, stage 8, switch 16, mask 16, set 8", and "eleven bytes an action, class last"
+-- "the action in one byte, the number in two, the kind in one, the stage in one, the switch in two, the mask in two, the set in one", and "In version 2 it has
+-- eleven, the class at the end"
 pub record Laid (action number kind stage switch mask s class : ℕ) (bytes : List ℕ) : Type 0 where
   pub eleven : length bytes ≡ 11
   pub action_at : get_or bytes 0 0 ≡ action
@@ -44,7 +45,7 @@ action_laid action number kind stage switch mask s class =
       class_at = refl;
     }
 
--- "Then ten bytes an action", "eleven bytes an action"; the longer one is that of an action's bytes
+-- "An action has ten bytes in version 1", "In version 2 it has eleven"; the longer one is that of an action's bytes
 pub lengths_spelled : (action number kind stage switch mask s class : ℕ)
     → (action_length 1 ≡ 10) × (action_length 2 ≡ 11) × (length (action_bytes action number kind stage switch mask s class) ≡ action_length 2)
 lengths_spelled action number kind stage switch mask s class = (refl, refl, refl)
@@ -57,24 +58,24 @@ two_lengths version = go (eqb version 2) refl
     go true e = inr (rw e)
     go false e = inl (rw e)
 
--- "Length is exactly 8 + 10 x count", and with eleven bytes an action 8 + 11 x count
+-- "A sheet of version 1 is 8 + 10 x count bytes long", and with eleven bytes an action 8 + 11 x count
 pub before_action : (k : ℕ) → (bytes_before (action_length 1) k ≡ 8 + 10 * k) × (bytes_before (action_length 2) k ≡ 8 + 11 * k)
 before_action k = (refl, refl)
 
--- "Action 1 files; the kind is the target's number above"; "kind 1: mask zero"
+-- "Action 1 is a filing, and its kind is that of the target"; "In kind 1 the mask is 0"
 pub links_laid : (k stage switch s class : ℕ) → Laid 1 k 1 stage switch 0 s class (filing (record { number = k; target = Links stage switch s; class = class }))
 links_laid k stage switch s class = action_laid 1 k 1 stage switch 0 s class
 
--- "kind 2: stage holds the column, mask and set zero"
+-- "In kind 2 the column stands in the stage's byte, mask and set are 0"
 pub switch_laid : (k column switch class : ℕ) → Laid 1 k 2 column switch 0 0 class (filing (record { number = k; target = Switch column switch; class = class }))
 switch_laid k column switch class = action_laid 1 k 2 column switch 0 0 class
 
--- "kind 3: switch holds the value"
+-- "In kind 3 the value stands where the switch does"
 pub pattern_laid : (k stage value mask s class : ℕ)
     → Laid 1 k 3 stage value mask s class (filing (record { number = k; target = Pattern stage value mask s; class = class }))
 pattern_laid k stage value mask s class = action_laid 1 k 3 stage value mask s class
 
--- three of 01's example, the second of them busy, and one whose numbers need both bytes
+-- three of the worked example, the second of them busy, and one whose numbers need both bytes
 pub filings_spelt :
     filing (record { number = 7; target = Links 0 1 4; class = 0 })
     ∷ filing (record { number = 8; target = Pattern 0 1 3 4; class = 1 })
@@ -102,7 +103,7 @@ class_last k (Links stage switch s) class = refl
 class_last k (Switch column switch) class = refl
 class_last k (Pattern stage value mask s) class = refl
 
--- "number 16" lies in the first ten
+-- "the number in two" lies in the first ten
 pub number_in : (k : ℕ) (t : Target) (class each : ℕ) → (each ≡ 10) ⊎ (each ≡ 11) → Word (take each (filing_of k t class)) 1 k
 number_in k (Links stage switch s) class each (inl e) = rw e (record { adds_up = omega arith; low_byte = omega arith })
 number_in k (Links stage switch s) class each (inr e) = rw e (record { adds_up = omega arith; low_byte = omega arith })

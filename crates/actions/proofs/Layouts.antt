@@ -15,7 +15,7 @@ use Rattle.actions.specs.Layout.{action_bytes}
 use Rattle.actions.specs.declared.Fields.{Fields}
 use Rattle.actions.specs.Format.{field_bytes, fields_of, with_class, some_used, kind_fault, withdrawing_fault, routing_fault, layout_fault}
 
--- "Numbers are big-endian.": what is read is what was written, and the other way round
+-- "In every number of two bytes the high byte comes first.": what is read is what was written, and the other way round
 pub word_read : (x : ℕ) → x / 256 * 256 + x % 256 ≡ x
 word_read x = omega arith
 

@@ -9,5 +9,5 @@ pub mod Layouts
 pub mod Promises
 -- no second answer, and what is written is what is read
 pub mod Actions
--- each answer exactly where 01 gives it
+-- each answer exactly where docs/RULES.md gives it
 pub mod Exactly

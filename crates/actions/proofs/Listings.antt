@@ -18,7 +18,7 @@ eleven k (Links stage switch s) class = refl
 eleven k (Switch column switch) class = refl
 eleven k (Pattern stage value mask s) class = refl
 
--- "eleven bytes each": of every notice
+-- "the eleven bytes of its filing": of every notice
 pub length_filing : (x : Notice) → length (filing x) ≡ 11
 length_filing x = eleven x.number x.target x.class
 
@@ -43,7 +43,7 @@ module _ (each : ℕ) (short : each ≤ 11) where
   length_rows [] = sym (mul-zero each)
   length_rows (x ∷ l) = length-append (take each (filing x)) (rows each l) ∙ ap₂ ◌+◌ (length_row x) (length_rows l) ∙ sym (one_more (length l))
 
-  -- "eleven bytes each", or ten: row i is the front of the filing action of notice i
+  -- "the eleven bytes of its filing", or ten: row i is the front of the filing action of notice i
   pub row_at : (l : List Notice) (d : Notice) (i : ℕ) → i < length l → take each (drop (each * i) (rows each l)) ≡ take each (filing (get_or l i d))
   unfolding rows
   row_at [] d i h = absurd (omega arith)

@@ -1,4 +1,5 @@
 -- What the definitions say, before anything is proved with them.
+use Rattle.std.specs.Prelude.{Ok}
 use mathlib.Core.Path.{◌≡◌, refl, ap, ◌∙◌}
 use mathlib.Core.Bool.{Bool, true, false, not, ◌&&◌, ◌||◌}
 use mathlib.Core.Logic.{◌⊎◌, inl, inr, ◌↔◌}
@@ -14,20 +15,21 @@ use Rattle.actions.specs.declared.Action.{Action}
 use Rattle.actions.specs.Format.{word, with_class, bytes_of}
 use Rattle.actions.specs.Entries.{no_part, action_checks}
 
--- "Numbers are big-endian.": the bytes 1 and 2 are 258
+-- "In every number of two bytes the high byte comes first.": the bytes 1 and 2 are 258
 pub big_endian : word (1 ∷ 2 ∷ []) 0 ≡ 258
 big_endian = refl
 
--- 01's example: "file 7 links stage 0 switch 1 set 4", "file 8 pattern stage 0 value 1 mask 3 set 4", "file 7 switch column 1 switch 2",
--- "withdraw 7" and "route 8 to 0", the second of them busy and the route over broken ones only; and numbers of two bytes
+-- The worked example: "file 7: links, stage 0, switch 1, set 4", "file 8: pattern, stage 0, value 1, mask 3, set 4", "file 7: switch,
+-- column 1, switch 2", "withdraw 7" and "route 8 to 0", the second of them busy and the route over broken ones only; and numbers of two
+-- bytes
 pub example_bytes :
-    bytes_of (Action.File (record { number = 7; target = Links 0 1 4; class = 0 }))
-    ∷ bytes_of (Action.File (record { number = 8; target = Pattern 0 1 3 4; class = 1 }))
-    ∷ bytes_of (Action.File (record { number = 7; target = Switch 1 2; class = 0 }))
-    ∷ bytes_of (Action.Withdraw 7)
-    ∷ bytes_of (Action.Route 8 0 1)
-    ∷ bytes_of (Action.Withdraw 258)
-    ∷ bytes_of (Action.Route 772 1286 0)
+    bytes_of (Ok (Action.File (record { number = 7; target = Links 0 1 4; class = 0 })))
+    ∷ bytes_of (Ok (Action.File (record { number = 8; target = Pattern 0 1 3 4; class = 1 })))
+    ∷ bytes_of (Ok (Action.File (record { number = 7; target = Switch 1 2; class = 0 })))
+    ∷ bytes_of (Ok (Action.Withdraw 7))
+    ∷ bytes_of (Ok (Action.Route 8 0 1))
+    ∷ bytes_of (Ok (Action.Withdraw 258))
+    ∷ bytes_of (Ok (Action.Route 772 1286 0))
     ∷ []
     ≡ (1 ∷ 0 ∷ 7 ∷ 1 ∷ 0 ∷ 0 ∷ 1 ∷ 0 ∷ 0 ∷ 4 ∷ 0 ∷ [])
     ∷ (1 ∷ 0 ∷ 8 ∷ 3 ∷ 0 ∷ 0 ∷ 1 ∷ 0 ∷ 3 ∷ 4 ∷ 1 ∷ [])
@@ -39,11 +41,11 @@ pub example_bytes :
     ∷ []
 example_bytes = refl
 
--- "action reader (a part): 13, 2"
+-- "Action reader (part): 13, 2"
 pub action_order : (part : List ℕ) → numbers (action_checks part) ≡ 13 ∷ 2 ∷ []
 action_order part = refl
 
--- 13: "an action part not ten bytes long"; "the action reader takes both lengths"
+-- 13: "the part of an action has neither ten nor eleven bytes"; "A part of either length is read"
 pub lengths_pass : (part : List ℕ) → ((get_or (action_checks part) 0 (0 when false)).holds ≡ false) ↔ ((length part ≡ 10) ⊎ (length part ≡ 11))
 lengths_pass part =
     ((λ e. there (eqb (length part) 10) refl (not-false (eqb (length part) 10 || eqb (length part) 11) e)), back)

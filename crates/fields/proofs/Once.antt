@@ -1,4 +1,5 @@
 -- The promise of the fields determines the number and each place of the lent memory, and says the same as the action reader.
+use Rattle.std.specs.Prelude.{Err}
 use mathlib.Core.Path.{◌≡◌, sym, ap, ◌∙◌}
 use mathlib.Core.List.{List, [], ◌∷◌, ◌++◌}
 use Prim.Native.Nat.{ℕ, ◌≤◌, ◌<◌}
@@ -8,8 +9,7 @@ use Rattle.table.specs.declared.Refusal.{Refusal}
 use Rattle.table.specs.Numbers.{number_of}
 use Rattle.table.specs.Reply.{Reply.accepted, refused}
 use Rattle.packing.specs.Packed.{packed}
-use Rattle.actions.specs.declared.Action.{Action}
-use Rattle.actions.specs.Format.{IsAction, fields_of, bytes_of}
+use Rattle.actions.specs.Format.{IsAction, fields_of, bytes_of, ActionRead}
 use Rattle.actions.specs.Entries.{ReadsAction}
 use Rattle.actions.specs.declared.Fields.{Fields}
 use Rattle.actions.proofs.Layouts.{fields_with_class}
@@ -30,7 +30,7 @@ module _ (part before after : List ℕ) (r : ℕ) (reads : ReadsFields part befo
   laid = in_order (fields_of part) ++ drop 8 before
 
   -- an action's number and fields, where there is room for them
-  pub fields_given : (a : Action) → IsAction a → ReadsAction part a → 8 ≤ length before → (r ≡ packed (kind_says a)) × (after ≡ in_order (fields_of (bytes_of a)) ++ drop 8 before)
+  pub fields_given : (a : ActionRead) → IsAction a → ReadsAction part a → 8 ≤ length before → (r ≡ packed (kind_says a)) × (after ≡ in_order (fields_of (bytes_of a)) ++ drop 8 before)
   fields_given a i h room =
       let fits = le-ltb (length before) 8 room in (
         reads.says ∙ ap packed {y = kind_says a} (room_left part before refused (accepted first) a i h ∙ rw fits (sym (kind_is_first_byte part a i h))),
@@ -38,7 +38,7 @@ module _ (part before after : List ℕ) (r : ℕ) (reads : ReadsFields part befo
       )
 
   -- 13 where there is none
-  pub fields_short : (a : Action) → IsAction a → ReadsAction part a → length before < 8 → (r ≡ 13) × (after ≡ before)
+  pub fields_short : (a : ActionRead) → IsAction a → ReadsAction part a → length before < 8 → (r ≡ 13) × (after ≡ before)
   fields_short a i h room =
       let short = lt-ltb (length before) 8 room in (
         reads.says ∙ ap packed (room_left part before refused (accepted first) a i h) ∙ rw short,
@@ -46,7 +46,7 @@ module _ (part before after : List ℕ) (r : ℕ) (reads : ReadsFields part befo
       )
 
   -- and the action reader's number where it refuses, whatever the room
-  pub fields_unread : (why : Refusal) → ReadsAction part (Action.Refused why) → (r ≡ number_of why) × (after ≡ before)
+  pub fields_unread : (why : Refusal) → ReadsAction part (Err why) → (r ≡ number_of why) × (after ≡ before)
   fields_unread why h = (
     reads.says ∙ ap packed (nothing_left part before refused (accepted first) why h),
     reads.leaves ∙ nothing_left part before (λ k. before) laid why h,

@@ -1,28 +1,29 @@
--- Document 01, "action reader (a part): 13, 2; otherwise the action with its fields.", and document 02, §5, for C and Rust: which action it is, as a value, and
--- its eight fields, as numbers of 16 bits in lent memory.
+-- docs/RULES.md, 'Entries', "Action reader (part): 13, 2. Past these it answers the action and its fields.", and 'Classes', for C and Rust: which action it is,
+-- as a value, and its eight fields, as numbers of 16 bits in lent memory.
+use Rattle.actions.specs.Format.{ActionRead, fields_of}
 use Rattle.std.specs.Prelude.{◌≡◌, List, [], ◌∷◌, ◌++◌, ℕ, length, drop, get_or}
-use Rattle.table.specs.Numbers.{number_of}
-use Rattle.table.specs.Reply.{Reply, refused}
+use Rattle.table.specs.Reply.{Reply, refused, says}
 use Rattle.table.specs.Checks.{Check, checked, ◌when◌, ◌below◌}
 use Rattle.packing.specs.Packed.{packed}
 use Rattle.actions.specs.declared.Fields.{Fields}
 use Rattle.actions.specs.declared.Action.{Action}
-use Rattle.actions.specs.Format.{fields_of}
 use Rattle.actions.specs.Entries.{action_checks}
 
--- which action it is: "Action 1 files", "Action 2 withdraws", "Action 3 routes". `kind_is_first_byte` says that it is the part's own number.
-abbrev pub kind_says : Action → Reply
-kind_says (Action.File x) = Reply.accepted (1 ∷ [])
-kind_says (Action.Withdraw k) = Reply.accepted (2 ∷ [])
-kind_says (Action.Route s d choice) = Reply.accepted (3 ∷ [])
-kind_says (Action.Refused why) = refused (number_of why)
+-- which action it is: "Action 1 is a filing", "Action 2 is a withdrawal", "Action 3 is a route". `kind_is_first_byte` says that it is the part's own number.
+abbrev pub kind_number : Action → ℕ
+kind_number (Action.File x) = 1
+kind_number (Action.Withdraw k) = 2
+kind_number (Action.Route s d choice) = 3
 
--- "action 8 bits, number 16, kind 8, stage 8, switch 16, mask 16, set 8", and "class last": the fields in this order. `links_fields` and the four after it say
--- what they are for each action.
+abbrev pub kind_says : ActionRead → Reply
+kind_says = says (λ a. kind_number a ∷ [])
+
+-- "the action in one byte, the number in two, the kind in one, the stage in one, the switch in two, the mask in two, the set in one", and "the class at the
+-- end": the fields in this order. `links_fields` and the four after it say what they are for each action.
 abbrev pub in_order : Fields → List ℕ
 in_order f = f.action ∷ f.number ∷ f.kind ∷ f.stage ∷ f.switch ∷ f.mask ∷ f.set ∷ f.class ∷ []
 
--- 13: "lent memory too short": shorter than eight fields (`eight_are_enough`, `seven_are_too_few`)
+-- 13: "the lent memory is not long enough": shorter than eight fields (`eight_are_enough`, `seven_are_too_few`)
 abbrev pub room_check : List ℕ → List Check
 room_check memory = (13 when length memory below 8) ∷ []
 

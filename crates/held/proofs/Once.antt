@@ -1,5 +1,6 @@
 -- A change that is asked for over a sheet has no second answer and leaves no second memory, over every sheet, one whose header is refused too; and a
 -- host whose opening was refused holds nothing, whatever it asks for then.
+use Rattle.std.specs.Prelude.{Err}
 use mathlib.Core.Path.{◌≡◌, refl, sym, ap, subst, ◌∙◌}
 use mathlib.Core.Bool.{true}
 use mathlib.Core.List.{List, []}
@@ -13,7 +14,6 @@ use Rattle.table.specs.Checks.{Check, Given.here}
 use Rattle.fabric.specs.Labels.{outside_sizes}
 use Rattle.packing.specs.Packed.{packed, Tells}
 use Rattle.packing.proofs.Unpacking.{refusal_shows}
-use Rattle.sheet.specs.declared.Header.{Header}
 use Rattle.sheet.specs.Entries.{ReadsHeader}
 use Rattle.sheet.proofs.Promises.{header_refuses}
 use Rattle.book.specs.declared.Book.{Book}
@@ -22,8 +22,7 @@ use Rattle.book.specs.Entries.{book_checks, open_checks}
 use Rattle.changes.specs.Runs.{Change, change_checks, changed}
 use Rattle.handed.specs.Books.{OverLent}
 use Rattle.handed.proofs.Once.{over_once, over_header}
-use Rattle.written.specs.declared.Written.{Written}
-use Rattle.written.specs.Sheets.{written_says, WritesSheet, Writes}
+use Rattle.written.specs.Sheets.{written_says, WritesSheet, Writes, Written}
 use Rattle.written.proofs.Once.{writes_once}
 use Rattle.held.specs.Lives.{Asks, held_then, Life, Life.opens, Life.asks}
 use Rattle.held.proofs.Told.{told_given}
@@ -45,7 +44,7 @@ pub write_told_once : (sheet before after later : List ℕ) (q r : ℕ) → Over
 write_told_once sheet before after later q r v w = over_once sheet before after later _ _ q r (λ b y z. sheet_told_once (book_checks b) b before after later q r y z) v w
 
 -- over a sheet whose header is refused the header's number is told, nothing is written, and the host holds what it held
-pub refused_header_holds : (sheet : List ℕ) (a : Change) (before after : List ℕ) (r : ℕ) (why : Refusal) → ReadsHeader sheet (Header.Refused why) → Asks sheet a before after r
+pub refused_header_holds : (sheet : List ℕ) (a : Change) (before after : List ℕ) (r : ℕ) (why : Refusal) → ReadsHeader sheet (Err why) → Asks sheet a before after r
     → (r ≡ number_of why) × (after ≡ before) × (held_then sheet after r ≡ sheet)
 refused_header_holds sheet a before after r why reads o =
     let h = over_header sheet before after _ r o why reads in
@@ -54,7 +53,7 @@ refused_header_holds sheet a before after r why reads o =
     let low : r % 256 ≡ 0 → ⊥ = λ z. omega arith in
     (h.0, h.1, rw (ne_eqb (r % 256) 0 low) refl)
 
-no_sheet : ReadsHeader [] (Header.Refused Refusal.Mark)
+no_sheet : ReadsHeader [] (Err Refusal.Mark)
 no_sheet = header_refuses (here refl refl)
 
 pub nothing_held : (n : ℕ) → outside_sizes n ≡ true → (changes : List Change) (sheet : List ℕ) → Life n changes sheet → sheet ≡ []

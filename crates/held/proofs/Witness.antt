@@ -1,4 +1,6 @@
 -- Every run of changes has a life: at each step there is an answer and a memory that the promise allows.
+use Rattle.sheet.specs.Format.{headed}
+use Rattle.std.specs.Prelude.{Ok, Err}
 use mathlib.Core.Path.{◌≡◌, refl, sym, subst, ◌∙◌}
 use mathlib.Core.Bool.{false}
 use mathlib.Core.List.{List, [], ◌∷◌, ◌++◌, map, append_assoc, append-nil}
@@ -12,14 +14,12 @@ use Rattle.table.specs.Checks.{Check, Given, Given.here, Given.later, Passed, Pa
 use Rattle.table.proofs.Checks.{zero_one, given_or_passed, given_before}
 use Rattle.fabric.specs.Labels.{outside_sizes}
 use Rattle.packing.specs.Packed.{packed, Tells}
-use Rattle.sheet.specs.declared.Header.{Header}
 use Rattle.book.specs.declared.Book.{Book}
 use Rattle.book.specs.Standing.{standing, book_of}
 use Rattle.book.specs.Entries.{open_checks, opened}
 use Rattle.changes.specs.Runs.{Change, change_checks, changed, run}
 use Rattle.changes.proofs.Reach.{opened_is}
-use Rattle.written.specs.declared.Written.{Written}
-use Rattle.written.specs.Sheets.{version_for, sheet_of, most_written, written_says, WritesSheet}
+use Rattle.written.specs.Sheets.{version_for, sheet_of, most_written, written_says, WritesSheet, Written}
 use Rattle.written.proofs.Handing.{writes_refused, writes_fits}
 use Rattle.written.proofs.Since.{sheet_stands_in}
 use Rattle.handed.specs.Books.{OverLent}
@@ -45,12 +45,12 @@ Answered checks made before = (left : List ℕ) × (r : ℕ) × Tells (WritesShe
 
 answer_if : (checks : List Check) (made : Book) (before : List ℕ) → Passed checks → length (sheet_of made) ≤ length before → Answered checks made before
 answer_if checks made before p fits =
-    let r = Written.Sheet (length (sheet_of made)) in
+    let r = Ok (length (sheet_of made)) in
     (sheet_of made ++ drop (length (sheet_of made)) before, packed (written_says r), (r, writes_fits checks made before _ _ p fits refl refl, refl))
 
 refusal_if : (checks : List Check) (made : Book) (before : List ℕ) (why : Refusal) → Given (number_of why) checks → Answered checks made before
 refusal_if checks made before why g =
-    let r = Written.Refused why in
+    let r = Err why in
     (before, packed (written_says r), (r, writes_refused checks made before why (given_before checks _ g), refl))
 
 module _ (n : ℕ) (legal : outside_sizes n ≡ false) (before : List ℕ) (enough : most_written ≤ length before) where
@@ -70,7 +70,7 @@ module _ (n : ℕ) (legal : outside_sizes n ≡ false) (before : List ℕ) (enou
     over_it : (answers : Book → ℕ → Type 0) (left : List ℕ) (r : ℕ) → answers b r → OverLent (sheet_of b) before left answers r
     over_it answers left r x =
         let s = sheet_stands_in n legal changes in
-        record { header = Header.Sheet n (length (standing b)) (version_for (standing b)); reads = s.0; over = (b, s.1, x) }
+        record { header = headed n (length (standing b)) (version_for (standing b)); reads = s.0; over = (b, s.1, x) }
 
     asked : (a : Change) (left : List ℕ) (r : ℕ) → Tells (WritesSheet (change_checks a b) (changed a b) before left) written_says r → Asks (sheet_of b) a before left r
     asked a left r t = over_it _ left r t

@@ -14,8 +14,7 @@ use Rattle.table.specs.Reply.{refused}
 use Rattle.table.specs.Checks.{◌below◌}
 use Rattle.table.proofs.Checks.{passed_nth, neither, other_of, unequal}
 use Rattle.actions.specs.Layout.{bytes_before}
-use Rattle.sheet.specs.declared.Header.{Header}
-use Rattle.sheet.specs.Format.{size_in, count_in, each_in}
+use Rattle.sheet.specs.Format.{size_in, count_in, each_in, HeaderRead, headed}
 use Rattle.sheet.specs.Entries.{header_says, wrong_mark, wrong_length, header_checks, ReadsHeader}
 use Rattle.sheet.proofs.Promises.{header_passed}
 
@@ -26,7 +25,7 @@ marks_agree sheet k h long cut =
     rw (le-ltb (length (take k sheet)) 8 cut, le-ltb (length sheet) 8 long, same 0 (omega arith), same 1 (omega arith), same 2 (omega arith), same 3 (omega arith), same 4 (omega arith))
 
 -- 14 where the header itself is cut, 15 where an action is
-pub cut_is_refused : (sheet : List ℕ) (n count version k : ℕ) (h : Header) → ReadsHeader sheet (Header.Sheet n count version) → k < length sheet → ReadsHeader (take k sheet) h
+pub cut_is_refused : (sheet : List ℕ) (n count version k : ℕ) (h : HeaderRead) → ReadsHeader sheet (headed n count version) → k < length sheet → ReadsHeader (take k sheet) h
     → (header_says h ≡ refused 14) ⊎ (header_says h ≡ refused 15)
 cut_is_refused sheet n count version k h whole less cut = go (dec_le 8 k)
   where

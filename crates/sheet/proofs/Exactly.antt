@@ -1,4 +1,5 @@
 -- What the entries over a sheet answer, said of the sheet's bytes alone.
+use Rattle.std.specs.Prelude.{Ok, Err}
 use mathlib.Core.Path.{◌≡◌, refl, sym, ap, ap₂, subst, ◌∙◌}
 use mathlib.Core.Bool.{Bool, true, false, cond, true≢false}
 use mathlib.Core.Logic.{◌⊎◌, ◌↔◌}
@@ -9,26 +10,24 @@ use borrow.Author.Tests.{le-ltb, ltb-false, leb-false}
 use lib.ListN.{length, drop, get_or, take-append-drop}
 use lib.Seq.{get_or-take, get_or-drop}
 use Rattle.table.specs.declared.Refusal.{Refusal}
-use Rattle.table.specs.Reply.{Reply, Numbered, refused, answer_says}
+use Rattle.table.specs.Reply.{Reply, Numbered, refused, answer_says, Answer}
 use Rattle.table.specs.Checks.{checked, ◌below◌, Given, Given.here, Given.later, Passed, Passed.none, Passed.passes}
 use Rattle.table.proofs.Numbers.{above_zero}
 use Rattle.table.proofs.Checks.{passed_accepts, accepted_passed, refused_given, passed_nth, neither, neither_of, zero_one}
 use Rattle.fabric.specs.Labels.{outside_sizes}
-use Rattle.sheet.specs.declared.Header.{Header}
-use Rattle.table.specs.declared.Answer.{Answer}
 use Rattle.actions.specs.Layout.{action_length, bytes_before}
-use Rattle.sheet.specs.Format.{header_bytes, version_in, size_in, count_in, each_in}
+use Rattle.sheet.specs.Format.{header_bytes, version_in, size_in, count_in, each_in, HeaderRead, headed}
 use Rattle.sheet.specs.Entries.{header_says, wrong_mark, wrong_length, header_checks, there_checks, ReadsHeader, HasAction, start_of, part_of}
 use Rattle.sheet.proofs.Meanings.{length_exactly}
 use Rattle.sheet.proofs.Promises.{header_accepts, there_yes, start_there, part_there, part_nowhere, start_nowhere}
 use Rattle.sheet.proofs.Sheets.{header_read, header_written, there_once}
 
-pub header_numbered : (h : Header) → Numbered (header_says h)
-header_numbered (Header.Sheet n count version) = tt
-header_numbered (Header.Refused why) = above_zero why
+pub header_numbered : (h : HeaderRead) → Numbered (header_says h)
+header_numbered (Ok head) = let n = head.n in let count = head.count in let version = head.version in tt
+header_numbered (Err why) = above_zero why
 
--- 14: "sheet under 8 bytes, wrong mark or version": where no header stands at the sheet's front, neither of version 1 nor of version 2
-pub fourteen_exactly : (sheet : List ℕ) → ((i : ℕ) → get_or sheet i 0 < 256) → (h : Header) → ReadsHeader sheet h
+-- 14: "a sheet of fewer than eight bytes, or with another mark or version": where no header stands at the sheet's front, neither of version 1 nor of version 2
+pub fourteen_exactly : (sheet : List ℕ) → ((i : ℕ) → get_or sheet i 0 < 256) → (h : HeaderRead) → ReadsHeader sheet h
     → (header_says h ≡ refused 14) ↔ ((version n count : ℕ) (rest : List ℕ) → (version ≡ 1) ⊎ (version ≡ 2) → sheet ≡ header_bytes version n count ++ rest → ⊥)
 fourteen_exactly sheet bytes h r = (
   (λ e version n count rest v s. there version n count rest v s (refused_given (header_checks sheet) (size_in sheet ∷ count_in sheet ∷ version_in sheet ∷ []) 14 (sym e ∙ r.says))),
@@ -49,7 +48,7 @@ fourteen_exactly sheet bytes h r = (
         absurd (missing (version_in sheet) (size_in sheet) (count_in sheet) (drop 8 sheet) w.0 (sym (take-append-drop 8 sheet) ∙ ap (λ (l : List ℕ). l ++ drop 8 sheet) w.1))
 
 -- a header with what follows it
-module _ (version n count : ℕ) (rest : List ℕ) (right_version : (version ≡ 1) ⊎ (version ≡ 2)) (h : Header) (r : ReadsHeader (header_bytes version n count ++ rest) h) where
+module _ (version n count : ℕ) (rest : List ℕ) (right_version : (version ≡ 1) ⊎ (version ≡ 2)) (h : HeaderRead) (r : ReadsHeader (header_bytes version n count ++ rest) h) where
   abbrev sheet : List ℕ
   sheet = header_bytes version n count ++ rest
 
@@ -81,7 +80,7 @@ module _ (version n count : ℕ) (rest : List ℕ) (right_version : (version ≡
   judged : header_says h ≡ cond (outside_sizes n) (refused 1) (cond (wrong_length sheet) (refused 15) (Reply.accepted (n ∷ count_in sheet ∷ version_in sheet ∷ [])))
   judged = r.says ∙ rw read.3
 
-  -- 1: "n outside 1 to 12"
+  -- 1: "n is 0 or above 12"
   pub one_exactly : (header_says h ≡ refused 1) ↔ ((1 ≤ n) × (n ≤ 12) → ⊥)
   one_exactly = ((λ e w. other (wrong_length sheet) (sym e ∙ judged ∙ rw (size_right.1 w))), (λ w. go w (outside_sizes n) refl))
     where
@@ -93,7 +92,7 @@ module _ (version n count : ℕ) (rest : List ℕ) (right_version : (version ≡
       go w true e = judged ∙ rw e
       go w false e = absurd (w (size_right.0 e))
 
-  -- 15: "action count above 4,096, or wrong sheet length"
+  -- 15: "a count of more than 4,096 actions, or another length than the count asks for"
   pub fifteen_exactly : (1 ≤ n) × (n ≤ 12) → (header_says h ≡ refused 15) ↔ ((count ≤ 4096) × (length rest ≡ action_length version * count) → ⊥)
   fifteen_exactly right = (
     (λ e w. let f : refused 15 ≡ Reply.accepted (n ∷ count_in sheet ∷ version_in sheet ∷ []) = sym e ∙ judged ∙ rw (size_right.1 right, length_right.1 w) in zero_one cc),
@@ -104,7 +103,7 @@ module _ (version n count : ℕ) (rest : List ℕ) (right_version : (version ≡
       go w true e = judged ∙ rw (size_right.1 right, e)
       go w false e = absurd (w (length_right.0 e))
 
-  -- "otherwise it answers n and the count", and the version: for n from 1 to 12, a count up to 4,096, 0 with it, and exactly 10 x count bytes more, or 11 x
+  -- "Past these it answers n, the count and the version": for n from 1 to 12, a count up to 4,096, 0 with it, and exactly 10 x count bytes more, or 11 x
   -- count, as the version says
   pub header_exactly : (header_says h ≡ Reply.accepted (n ∷ count ∷ version ∷ [])) ↔ ((1 ≤ n) × (n ≤ 12) × (count ≤ 4096) × (length rest ≡ action_length version * count))
   header_exactly = (
@@ -120,20 +119,20 @@ module _ (version n count : ℕ) (rest : List ℕ) (right_version : (version ≡
         ∙ ap₂ (λ (c v : ℕ). Reply.accepted (n ∷ c ∷ v ∷ [])) read.2 read.0),
   )
 
--- "one entry says whether the action is there": where the header is accepted and k is below its count
+-- "Is action k there": where the header is accepted and k is below its count
 pub there_exactly : (sheet : List ℕ) (k : ℕ) (t : Answer) → HasAction sheet k t
-    → (answer_says t ≡ Reply.accepted []) ↔ ((n count version : ℕ) × ReadsHeader sheet (Header.Sheet n count version) × (k < count))
+    → (answer_says t ≡ Reply.accepted []) ↔ ((n count version : ℕ) × ReadsHeader sheet (headed n count version) × (k < count))
 there_exactly sheet k t r = (
   (λ e. header (accepted_passed (there_checks sheet k) [] [] (sym e ∙ r.says))),
-  (λ w. ap answer_says (there_once sheet k t Answer.Done r (there_yes w.3 refl w.4))),
+  (λ w. ap answer_says (there_once sheet k t (Ok tt) r (there_yes w.3 refl w.4))),
 )
   where
-    header : Passed (there_checks sheet k) → (n count version : ℕ) × ReadsHeader sheet (Header.Sheet n count version) × (k < count)
+    header : Passed (there_checks sheet k) → (n count version : ℕ) × ReadsHeader sheet (headed n count version) × (k < count)
     header (passes a (passes b (passes c (passes d none)))) =
         (size_in sheet, count_in sheet, version_in sheet, header_accepts (passes a (passes b (passes c none))) refl refl, leb-false (count_in sheet) k d)
 
--- "action k is handed back as those ten bytes of the sheet themselves", or eleven: `part_is_each` says that there are no more
-pub part_bytes : (sheet : List ℕ) (k : ℕ) → HasAction sheet k Answer.Done
+-- "where the entry before accepts, a part of the caller's own sheet, the ten or eleven bytes of the action": `part_is_each` says that there are no more
+pub part_bytes : (sheet : List ℕ) (k : ℕ) → HasAction sheet k (Ok tt)
     → (start_of sheet k ≡ 8 + each_in sheet * k) × ((i : ℕ) → i < each_in sheet → get_or (part_of sheet k) i 0 ≡ get_or sheet (8 + each_in sheet * k + i) 0)
 part_bytes sheet k r =
     let start : ℕ = bytes_before (each_in sheet) k in (
@@ -141,6 +140,6 @@ part_bytes sheet k r =
       (λ i h. ap (λ (l : List ℕ). get_or l i 0) (sym (part_there r refl)) ∙ get_or-take (each_in sheet) (drop start sheet) i 0 h ∙ get_or-drop start sheet i 0),
     )
 
--- "otherwise the empty part at the sheet's front"
-pub part_empty : (sheet : List ℕ) (k : ℕ) (why : Refusal) → HasAction sheet k (Answer.Refused why) → (start_of sheet k ≡ 0) × (part_of sheet k ≡ [])
+-- "where it refuses, the empty part at the front of the sheet"
+pub part_empty : (sheet : List ℕ) (k : ℕ) (why : Refusal) → HasAction sheet k (Err why) → (start_of sheet k ≡ 0) × (part_of sheet k ≡ [])
 part_empty sheet k why r = (sym (start_nowhere r refl), sym (part_nowhere r refl))

@@ -1,4 +1,5 @@
 -- What the definitions say, before anything is proved with them.
+use Rattle.std.specs.Prelude.{Ok}
 use mathlib.Core.Path.{◌≡◌, refl}
 use mathlib.Core.Bool.{Bool, true, false, not, ◌||◌}
 use mathlib.Core.Logic.{◌⊎◌, inl, inr, ◌↔◌}
@@ -8,16 +9,15 @@ use Prim.Native.Char.{code}
 use borrow.Author.Tests.{le-ltb, ltb-false, eqb-true, not-false, le-leb, leb-true}
 use lib.Dec.{eqb}
 use lib.ListN.{length, get_or}
-use Rattle.table.specs.Reply.{Reply, answer_says}
+use Rattle.table.specs.Reply.{Reply, answer_says, Answer}
 use Rattle.table.specs.Checks.{numbers, ◌when◌, ◌below◌}
 use Rattle.table.proofs.Checks.{neither, neither_of, equal}
 use Rattle.actions.specs.Layout.{header_length, bytes_before}
-use Rattle.sheet.specs.declared.Header.{Header}
-use Rattle.table.specs.declared.Answer.{Answer}
-use Rattle.sheet.specs.Format.{header_bytes, count_in, each_in}
+use Rattle.sheet.specs.Format.{header_bytes, count_in, each_in, headed}
 use Rattle.sheet.specs.Entries.{header_says, wrong_version, wrong_length, header_checks, there_checks}
 
--- "Header: the bytes `FSH`, version 1 (16 bits), n (8), action count (16).", of 01's example: n = 3, eleven actions; and of version 2, with a count of two bytes
+-- "A sheet begins with a header of eight bytes: the letters FSH, the version in two bytes, n in one, and the count of actions in two.", of the worked example:
+-- n = 3, eleven actions; and of version 2, with a count of two bytes
 pub header_spelled :
     (header_bytes 1 3 11 ≡ code "F" ∷ code "S" ∷ code "H" ∷ 0 ∷ 1 ∷ 3 ∷ 0 ∷ 11 ∷ [])
     × (header_bytes 2 12 258 ≡ code "F" ∷ code "S" ∷ code "H" ∷ 0 ∷ 2 ∷ 12 ∷ 1 ∷ 2 ∷ [])
@@ -27,7 +27,7 @@ header_spelled = (refl, refl)
 pub header_bytes_length : (version n count : ℕ) → length (header_bytes version n count) ≡ header_length
 header_bytes_length version n count = refl
 
--- 14: "wrong mark or version": 1 and 2 are right
+-- 14: "with another mark or version": 1 and 2 are right
 pub versions_pass : (version : ℕ) → (wrong_version version ≡ false) ↔ ((version ≡ 1) ⊎ (version ≡ 2))
 versions_pass version = ((λ e. there (eqb version 1) refl (not-false (eqb version 1 || eqb version 2) e)), back)
   where
@@ -39,18 +39,19 @@ versions_pass version = ((λ e. there (eqb version 1) refl (not-false (eqb versi
     back (inl e) = rw e
     back (inr e) = rw e
 
--- "sheet header: 14, 1, 15", and then "k not below the count gives 13"
+-- "Header (sheet): 14, 1, 15", and then "13 where the count is k or less"
 pub header_order : (sheet : List ℕ) → numbers (header_checks sheet) ≡ 14 ∷ 1 ∷ 15 ∷ []
 header_order sheet = refl
 
 pub there_order : (sheet : List ℕ) (k : ℕ) → numbers (there_checks sheet k) ≡ 14 ∷ 1 ∷ 15 ∷ 13 ∷ []
 there_order sheet k = refl
 
--- "otherwise it answers n and the count", of 01's example, and the version; an action that is there says nothing more
-pub said_when_accepted : (header_says (Header.Sheet 3 11 1) ≡ Reply.accepted (3 ∷ 11 ∷ 1 ∷ [])) × (answer_says Answer.Done ≡ Reply.accepted [])
+-- "Past these it answers n, the count and the version", of the worked example; an action that is there says nothing more
+pub said_when_accepted : (header_says (headed 3 11 1) ≡ Reply.accepted (3 ∷ 11 ∷ 1 ∷ [])) × (answer_says (Ok tt) ≡ Reply.accepted [])
 said_when_accepted = (refl, refl)
 
--- 15: "action count above 4,096, or wrong sheet length", "Length is exactly 8 + 10 x count", or with eleven bytes an action 8 + 11 x count
+-- 15: "a count of more than 4,096 actions, or another length than the count asks for", "A sheet of version 1 is 8 + 10 x count bytes long", or with eleven
+-- bytes an action 8 + 11 x count
 pub length_exactly : (sheet : List ℕ) → (wrong_length sheet ≡ false) ↔ ((count_in sheet ≤ 4096) × (length sheet ≡ 8 + each_in sheet * count_in sheet))
 length_exactly sheet =
     let long : ℕ = bytes_before (each_in sheet) (count_in sheet) in (
@@ -60,6 +61,6 @@ length_exactly sheet =
       (λ w. neither_of (4096 below count_in sheet) (not (eqb (length sheet) long)) (le-ltb 4096 (count_in sheet) w.0) (equal {x = length sheet} {y = long} w.1)),
     )
 
--- 13: "k not below the count"
+-- 13: "the count is k or less"
 pub beyond_exactly : (sheet : List ℕ) (k : ℕ) → ((get_or (there_checks sheet k) 3 (0 when false)).holds ≡ true) ↔ (count_in sheet ≤ k)
 beyond_exactly sheet k = ((λ e. leb-true (count_in sheet) k e), (λ h. le-leb (count_in sheet) k h))

@@ -1,4 +1,5 @@
 -- Theorems over the entries: no promise leaves a second answer, and a header is the format read backward.
+use Rattle.std.specs.Prelude.{Err, Ok}
 use mathlib.Core.Path.{◌≡◌, refl, sym, ap, ◌∙◌}
 use mathlib.Core.Bool.{false, not, ◌||◌}
 use mathlib.Core.Logic.{◌⊎◌, inl, inr}
@@ -14,10 +15,9 @@ use Rattle.table.specs.Numbers.{number_of}
 use Rattle.table.specs.Checks.{◌below◌}
 use Rattle.table.proofs.Numbers.{number_tells}
 use Rattle.table.proofs.Checks.{neither, zero_one}
-use Rattle.sheet.specs.declared.Header.{Header}
-use Rattle.table.specs.declared.Answer.{Answer}
+use Rattle.table.specs.Reply.{Answer}
 use Rattle.actions.specs.Layout.{bytes_before}
-use Rattle.sheet.specs.Format.{header_bytes, version_in, size_in, count_in, each_in}
+use Rattle.sheet.specs.Format.{header_bytes, version_in, size_in, count_in, each_in, HeaderRead}
 use Rattle.sheet.specs.Entries.{header_says, wrong_version, wrong_mark, ReadsHeader, HasAction, start_of, part_of}
 use Rattle.actions.proofs.Laid.{two_lengths}
 use Rattle.actions.proofs.Layouts.{word_read, high_written, low_written, spells}
@@ -25,18 +25,18 @@ use Rattle.sheet.proofs.Meanings.{versions_pass}
 use Rattle.sheet.proofs.Promises.{there_fits, part_there}
 
 -- an answer is known by what it says
-pub header_tells : (a b : Header) → header_says a ≡ header_says b → a ≡ b
-header_tells (Header.Sheet n count version) (Header.Sheet m many other) e =
+pub header_tells : (a b : HeaderRead) → header_says a ≡ header_says b → a ≡ b
+header_tells (Ok head) (Ok next) e = let m = next.n in let many = next.count in let other = next.version in let n = head.n in let count = head.count in let version = head.version in
     let same : n ≡ m = cc in
     let often : count ≡ many = cc in
     let alike : version ≡ other = cc in
     rw (same, often, alike)
-header_tells (Header.Sheet n count version) (Header.Refused r) e = absurd (zero_one cc)
-header_tells (Header.Refused q) (Header.Sheet n count version) e = absurd (zero_one cc)
-header_tells (Header.Refused q) (Header.Refused r) e = let z : number_of q ≡ number_of r = cc in ap Header.Refused (number_tells q r z)
+header_tells (Ok head) (Err r) e = let n = head.n in let count = head.count in let version = head.version in absurd (zero_one cc)
+header_tells (Err q) (Ok head) e = let n = head.n in let count = head.count in let version = head.version in absurd (zero_one cc)
+header_tells (Err q) (Err r) e = let z : number_of q ≡ number_of r = cc in ap Err (number_tells q r z)
 
 -- no second answer
-pub header_once : (sheet : List ℕ) (a b : Header) → ReadsHeader sheet a → ReadsHeader sheet b → a ≡ b
+pub header_once : (sheet : List ℕ) (a b : HeaderRead) → ReadsHeader sheet a → ReadsHeader sheet b → a ≡ b
 header_once sheet a b p q = header_tells a b (p.says ∙ sym q.says)
 
 pub there_once : (sheet : List ℕ) (k : ℕ) (a b : Answer) → HasAction sheet k a → HasAction sheet k b → a ≡ b
@@ -45,7 +45,8 @@ there_once sheet k a b p q = answer_tells a b (p.says ∙ sym q.says)
 pub part_once : (sheet : List ℕ) (k : ℕ) (x y : List ℕ) (i j : ℕ) → (x ≡ part_of sheet k) × (i ≡ start_of sheet k) → (y ≡ part_of sheet k) × (j ≡ start_of sheet k) → (x ≡ y) × (i ≡ j)
 part_once sheet k x y i j p q = (p.0 ∙ sym q.0, p.1 ∙ sym q.1)
 
--- "Header: the bytes `FSH`, version 1 (16 bits), n (8), action count (16).", or version 2: what is written is read,
+-- "A sheet begins with a header of eight bytes: the letters FSH, the version in two bytes, n in one, and the count of actions in two.", or version 2: what is
+-- written is read,
 pub header_read : (version n count : ℕ) (rest : List ℕ) → (version ≡ 1) ⊎ (version ≡ 2)
     → let sheet : List ℕ = header_bytes version n count ++ rest in (version_in sheet ≡ version) × (size_in sheet ≡ n) × (count_in sheet ≡ count) × (wrong_mark sheet ≡ false)
 header_read version n count rest v = (word_read version, refl, word_read count, mark (length rest))
@@ -73,7 +74,7 @@ header_written sheet bytes right =
     )
 
 -- the part of an action that is there has as many bytes as the sheet's version says: in one sheet all have one length
-pub part_is_each : (sheet : List ℕ) (k : ℕ) → HasAction sheet k Answer.Done → length (part_of sheet k) ≡ each_in sheet
+pub part_is_each : (sheet : List ℕ) (k : ℕ) → HasAction sheet k (Ok tt) → length (part_of sheet k) ≡ each_in sheet
 part_is_each sheet k r =
     let fits = (there_fits r refl).1 in
     let start : ℕ = bytes_before (each_in sheet) k in
@@ -81,7 +82,7 @@ part_is_each sheet k r =
     ap length (sym (part_there r refl)) ∙ length-take-le (each_in sheet) (drop start sheet) long
 
 -- ten in version 1 and eleven in version 2, and there is no third
-pub part_is_ten_or_eleven : (sheet : List ℕ) (k : ℕ) → HasAction sheet k Answer.Done → (length (part_of sheet k) ≡ 10) ⊎ (length (part_of sheet k) ≡ 11)
+pub part_is_ten_or_eleven : (sheet : List ℕ) (k : ℕ) → HasAction sheet k (Ok tt) → (length (part_of sheet k) ≡ 10) ⊎ (length (part_of sheet k) ≡ 11)
 part_is_ten_or_eleven sheet k r = go (two_lengths (version_in sheet))
   where
     go : (each_in sheet ≡ 10) ⊎ (each_in sheet ≡ 11) → (length (part_of sheet k) ≡ 10) ⊎ (length (part_of sheet k) ≡ 11)

@@ -1,9 +1,12 @@
--- Document 01, 'The sheet and what is printed', and document 02, §5: the bytes of a sheet's header. Where its actions lie is `bytes_before` of the actions.
-use Rattle.std.specs.Prelude.{List, [], ◌∷◌, ℕ, ◌/◌, ◌%◌, get_or}
+-- docs/RULES.md, 'The sheet' and 'Classes': the bytes of a sheet's header. Where its actions lie is `bytes_before` of the actions.
+use Rattle.std.specs.Prelude.{List, [], ◌∷◌, ℕ, ◌/◌, ◌%◌, get_or, Result, Ok}
+use Rattle.table.specs.declared.Refusal.{Refusal}
+use Rattle.sheet.specs.declared.Header.{Header}
 use Rattle.actions.specs.Format.{word}
 use Rattle.actions.specs.Layout.{action_length}
 
--- "Header: the bytes `FSH`, version 1 (16 bits), n (8), action count (16).", and "The sheet goes to version 2": `header_spelled`, `header_bytes_length`
+-- "A sheet begins with a header of eight bytes: the letters FSH, the version in two bytes, n in one, and the count of actions in two.", and "In version 2 it
+-- has eleven": `header_spelled`, `header_bytes_length`
 abbrev pub header_bytes : ℕ → ℕ → ℕ → List ℕ
 header_bytes version n count = 70 ∷ 83 ∷ 72 ∷ version / 256 ∷ version % 256 ∷ n ∷ count / 256 ∷ count % 256 ∷ []
 
@@ -20,3 +23,10 @@ count_in sheet = word sheet 6
 -- how many bytes each action has: the version says it of all of them, `part_is_each`
 abbrev pub each_in : List ℕ → ℕ
 each_in sheet = action_length (version_in sheet)
+
+-- what the sheet header answers, and what it answers where it accepts
+abbrev pub HeaderRead : Type 0
+HeaderRead = Result Header Refusal
+
+abbrev pub headed : ℕ → ℕ → ℕ → HeaderRead
+headed n count version = Ok (record { n = n; count = count; version = version })

@@ -1,11 +1,11 @@
-// Document 01, 'The sheet and what is printed', and document 02, §5: what the entries over a sheet answer.
+// docs/RULES.md, 'The sheet' and 'Classes': what the entries over a sheet answer.
 #![tactic(auto)]
 
-use table::Refusal;
-
-// What the sheet header answers.
-#[derive(Clone, Copy)]
-pub enum Header {
-    Sheet { n: u8, count: u16, version: u16 },
-    Refused(Refusal),
+// What a sheet's header says: the fabric's size, how many actions follow, and the version, 1 or 2.
+// A version stays a number: 14 judges one that is none.
+#[derive(Clone, Copy, Debug, PartialEq, Eq)]
+pub struct Header {
+    pub n: u8,
+    pub count: u16,
+    pub version: u16,
 }

@@ -1,1 +1,2 @@
-pub mod Laying
+-- memory with too little room
+pub mod Room

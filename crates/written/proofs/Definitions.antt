@@ -1,4 +1,4 @@
--- What the definitions say, before anything is proved with them: the order of checks, and the sheet of document 01's example byte by byte.
+-- What the definitions say, before anything is proved with them: the order of checks, and the sheet of the worked example byte by byte.
 use mathlib.Core.Path.{◌≡◌, refl}
 use mathlib.Core.Bool.{Bool, true, false}
 use mathlib.Core.Logic.{◌⊎◌, inl, inr, ◌↔◌}
@@ -23,7 +23,7 @@ use Rattle.book.specs.Entries.{opened, open_checks, book_checks}
 use Rattle.changes.specs.Runs.{Change, change_checks, changed, run}
 use Rattle.written.specs.Sheets.{version_for, each_for, sheet_of, most_written, room_checks}
 
--- "Refusals: 16, then 13."
+-- "The numbers are 16, then 13."
 pub write_order : (b : Book) (memory : List ℕ) → numbers (room_checks (book_checks b) b memory) ≡ 16 ∷ 13 ∷ []
 write_order b memory = refl
 
@@ -37,8 +37,7 @@ file_sheet_order b x memory = refl
 pub withdraw_sheet_order : (b : Book) (k : ℕ) (memory : List ℕ) → numbers (room_checks (change_checks (Change.withdraw k) b) (changed (Change.withdraw k) b) memory) ≡ 16 ∷ 3 ∷ 9 ∷ 13 ∷ []
 withdraw_sheet_order b k memory = refl
 
--- "file 7 links stage 0 switch 1 set 4; file 8 pattern stage 0 value 1 mask 3 set 4; file 7 switch column 1 switch 2; withdraw 7; .. file 9 pattern
--- stage 0 value 1 mask 1 set 7; file 10 switch column 1 switch 2; .. withdraw 9"
+-- the filings and withdrawals of the worked example
 abbrev example : List Change
 example =
     Change.file (record { number = 7; target = Links 0 1 4; class = 0 })
@@ -57,7 +56,7 @@ pub sheet_spelled :
     ∷ 1 ∷ 0 ∷ 8 ∷ 3 ∷ 0 ∷ 0 ∷ 1 ∷ 0 ∷ 3 ∷ 4
     ∷ 1 ∷ 0 ∷ 10 ∷ 2 ∷ 1 ∷ 0 ∷ 2 ∷ 0 ∷ 0 ∷ 0
     ∷ []
-unfolding run some those insert in_places misfiled littered rows ones
+unfolding run insert in_places misfiled rows ones
 sheet_spelled = refl
 
 -- the same with notice 10 busy: version 2, and the class of each after it
@@ -67,10 +66,10 @@ pub busy_sheet_spelled :
     ∷ 1 ∷ 0 ∷ 8 ∷ 3 ∷ 0 ∷ 0 ∷ 1 ∷ 0 ∷ 3 ∷ 4 ∷ 0
     ∷ 1 ∷ 0 ∷ 10 ∷ 2 ∷ 1 ∷ 0 ∷ 2 ∷ 0 ∷ 0 ∷ 0 ∷ 1
     ∷ []
-unfolding run some those insert in_places misfiled littered rows ones
+unfolding run insert in_places misfiled rows ones
 busy_sheet_spelled = refl
 
--- "§1 writes version 2 when any busy notice stands", and version 1 where none does; there is no third
+-- "The sheet has version 2 where some notice that stands is busy", and version 1 where none does; there is no third
 module _ (l : List Notice) where
   two_versions : (b : Bool) → some busy l ≡ b → ((version_for l ≡ 1) × (some busy l ≡ false)) ⊎ ((version_for l ≡ 2) × (some busy l ≡ true))
   two_versions true e = inr (rw e, e)

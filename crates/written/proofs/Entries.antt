@@ -1,4 +1,5 @@
 -- What writing a sheet checks, in which order, and what passes; what it says, and which memory is left; and how much memory every sheet has room in.
+use Rattle.std.specs.Prelude.{Ok, Err}
 use mathlib.Core.Path.{◌≡◌, refl, sym, ap, ◌∙◌}
 use mathlib.Core.Bool.{Bool, true, false}
 use mathlib.Core.List.{List, [], ◌∷◌, ◌++◌}
@@ -29,14 +30,12 @@ use Rattle.sheet.specs.Format.{header_bytes}
 use Rattle.book.specs.declared.Book.{Book}
 use Rattle.book.specs.Standing.{standing, book_of, unsound, Sound}
 use Rattle.book.specs.Entries.{opened, book_checks}
-use Rattle.book.proofs.Filings.{standing_of}
+use Rattle.book.proofs.Filings.{standing_of, sound_of}
 use Rattle.book.proofs.Entries.{book_lets_pass}
-use Rattle.changes.proofs.Changes.{sound_of}
-use Rattle.written.specs.declared.Written.{Written}
 use Rattle.written.proofs.Definitions.{each_within}
-use Rattle.written.specs.Sheets.{version_for, each_for, sheet_of, most_written, written_says, room_checks, WritesSheet, Writes}
+use Rattle.written.specs.Sheets.{version_for, each_for, sheet_of, most_written, written_says, room_checks, WritesSheet, Writes, Written}
 
--- "Length is exactly 8 + 10 x count", or 8 + 11 x count where a busy notice stands
+-- "A sheet of version 1 is 8 + 10 x count bytes long", or 8 + 11 x count where a busy notice stands
 pub length_sheet : (b : Book) → length (sheet_of b) ≡ 8 + each_for (standing b) * length (standing b)
 length_sheet b = let e = length_rows (each_for (standing b)) (each_within (standing b)) (standing b) in omega arith
 
@@ -81,13 +80,13 @@ module _ (checks : List Check) (b : Book) (memory : List ℕ) where
     (λ w. let l = length_sheet b in let h = w.1 in passed_both checks _ w.0 (passes (le-ltb (length memory) _ (omega arith)) none)),
   )
 
--- "Refusals: 16, then 13."
+-- "The numbers are 16, then 13."
 pub write_lets_pass : (b : Book) (memory : List ℕ) → Passed (room_checks (book_checks b) b memory) ↔ ((unsound b ≡ false) × (8 + each_for (standing b) * length (standing b) ≤ length memory))
 write_lets_pass b memory =
     let w = room_lets_pass (book_checks b) b memory in
     ((λ p. ((book_lets_pass b).0 (w.0 p).0, (w.0 p).1)), (λ v. w.1 ((book_lets_pass b).1 v.0, v.1)))
 
--- of the book that a refused opening hands back: "which every entry over a book answers with 16"
+-- of the book that a refused opening hands back: "to which every entry over a book says 16"
 pub refused_opening_written : (n : ℕ) (memory : List ℕ) → outside_sizes n ≡ true → Given 16 (room_checks (book_checks (opened n)) (opened n) memory)
 refused_opening_written n memory size =
     let u : unsound (opened n) ≡ true = rw size in
@@ -95,10 +94,10 @@ refused_opening_written n memory size =
 
 -- every refusal comes with a number of the table
 pub written_numbered : (a : Written) → Numbered (written_says a)
-written_numbered (Written.Sheet bytes) = tt
-written_numbered (Written.Refused why) = above_zero why
+written_numbered (Ok bytes) = tt
+written_numbered (Err why) = above_zero why
 
--- "It answers the length; later bytes stay."
+-- "The answer is the length of the sheet, and the bytes after it are left."
 module _ (checks : List Check) (b : Book) (before after : List ℕ) (r : Written) (writes : WritesSheet checks b before after r) where
   -- refused exactly where the checks refuse, and then nothing is written
   pub refused_where : (k : ℕ) → (written_says r ≡ refused k) ↔ (Given k checks ⊎ (Passed checks × (13 ≡ k) × (length before < 8 + each_for (standing b) * length (standing b))))
@@ -108,7 +107,7 @@ module _ (checks : List Check) (b : Book) (before after : List ℕ) (r : Written
         (λ g. writes.says ∙ given_refuses _ _ k (room_checks checks b before) (w.1 g)),
       )
 
-  pub refused_writes_nothing : (why : Refusal) → r ≡ Written.Refused why → after ≡ before
+  pub refused_writes_nothing : (why : Refusal) → r ≡ Err why → after ≡ before
   refused_writes_nothing why e =
       let g = refused_given (room_checks checks b before) _ (number_of why) (sym (ap written_says e) ∙ writes.says) in
       writes.leaves ∙ given_refuses _ _ (number_of why) (room_checks checks b before) g
@@ -128,7 +127,7 @@ module _ (checks : List Check) (b : Book) (before after : List ℕ) (r : Written
       )
 
   -- an answer that is a length is that length, and all this holds
-  pub sheet_answered : (bytes : ℕ) → r ≡ Written.Sheet bytes
+  pub sheet_answered : (bytes : ℕ) → r ≡ Ok bytes
       → Passed (room_checks checks b before) × (bytes ≡ 8 + each_for (standing b) * length (standing b)) × (take bytes after ≡ sheet_of b) × (drop bytes after ≡ drop bytes before)
   sheet_answered bytes e =
       let p : Passed (room_checks checks b before) = accepted_passed (room_checks checks b before) _ (bytes ∷ []) (sym (ap written_says e) ∙ writes.says) in
@@ -174,7 +173,7 @@ module _ (b : Book) (before after : List ℕ) (r : Written) (writes : Writes b b
     (λ w. (written_exactly (book_checks b) b before after r writes ((write_lets_pass b before).1 w)).0),
   )
 
--- the memory in which every sheet has room: "At most 48 notices stand at once.",
+-- the memory in which every sheet has room: "A book has room for 48 notices standing together.",
 pub at_most_48 : (b : Book) → Sound b → length (standing b) ≤ 48
 at_most_48 b sound =
     let h = sound.fits in
@@ -211,7 +210,7 @@ upward_length k zero = refl
 upward_length k (suc m) = ap suc (upward_length (suc k) m)
 
 upward_busy : some busy (upward 0 48) ≡ true
-unfolding some upward
+unfolding upward
 upward_busy = refl
 
 pub most_attained : (b : Book) × (length b.notices ≡ 48) × (unsound b ≡ false) × (length (sheet_of b) ≡ most_written)

@@ -1,13 +1,13 @@
--- Open, file and withdraw for a host, beside the entries of document 01 that hand the book back: the host is answered as they answer, and where
--- they accept it has the sheet of the book that they hand back, or 13.
+-- Open, file and withdraw for a host, beside the entries that hand the book back: the host is answered as they answer, and where they accept it
+-- has the sheet of the book that they hand back, or 13.
+use Rattle.std.specs.Prelude.{Ok, Err}
 use mathlib.Core.Path.{◌≡◌, refl, sym, ap, subst}
 use mathlib.Core.Logic.{◌↔◌}
 use mathlib.Core.List.{List, []}
 use Prim.Native.Nat.{ℕ}
 use lib.ListN.{length}
 use Rattle.table.specs.declared.Refusal.{Refusal}
-use Rattle.table.specs.declared.Answer.{Answer}
-use Rattle.table.specs.Reply.{answer_says}
+use Rattle.table.specs.Reply.{answer_says, Answer}
 use Rattle.table.specs.Checks.{Check, Passed, Passed.none, Passed.passes}
 use Rattle.table.proofs.Checks.{passed_nth}
 use Rattle.notices.specs.declared.Notice.{Notice}
@@ -18,8 +18,7 @@ use Rattle.book.specs.Entries.{HandsBack, open_checks, book_checks, file_checks,
 use Rattle.book.proofs.Filings.{sound_if, sound_passes}
 use Rattle.book.proofs.Entries.{done_exactly, done_hands_back}
 use Rattle.changes.specs.Runs.{Change, change_checks, changed}
-use Rattle.written.specs.declared.Written.{Written}
-use Rattle.written.specs.Sheets.{WritesSheet, Writes}
+use Rattle.written.specs.Sheets.{WritesSheet, Writes, Written}
 use Rattle.written.specs.Changes.{OpensSheet, ChangesSheet, HostHas}
 use Rattle.written.proofs.Handing.{passed_alike, handed_refused, handed_writes, opened_sound, changed_sound}
 use Rattle.written.proofs.Once.{writes_once}
@@ -30,14 +29,14 @@ sound_from b (Change.file x) places p = sound_if b places (passed_nth (file_chec
 sound_from b (Change.withdraw j) places p = sound_if b places (passed_nth (withdraw_checks b j) 0 p)
 
 module _ (before after : List ℕ) (r : Written) where
-  host_has : (checks : List Check) (given made : Book) (k : Kept) → HandsBack checks given made k → (k.answer ≡ Answer.Done → Sound k.book)
+  host_has : (checks : List Check) (given made : Book) (k : Kept) → HandsBack checks given made k → (k.answer ≡ Ok tt → Sound k.book)
       → WritesSheet checks made before after r ↔ HostHas k before after r
   host_has checks given made k hands sound = ((λ w. (refusal w, book w)), (λ h. back h k.answer refl))
     where
-      refusal : WritesSheet checks made before after r → (why : Refusal) → k.answer ≡ Answer.Refused why → (r ≡ Written.Refused why) × (after ≡ before)
-      refusal w why e = writes_once checks made before after before r (Written.Refused why) w (handed_refused checks given made k hands why before e)
+      refusal : WritesSheet checks made before after r → (why : Refusal) → k.answer ≡ Err why → (r ≡ Err why) × (after ≡ before)
+      refusal w why e = writes_once checks made before after before r (Err why) w (handed_refused checks given made k hands why before e)
 
-      book : WritesSheet checks made before after r → k.answer ≡ Answer.Done → Writes k.book before after r
+      book : WritesSheet checks made before after r → k.answer ≡ Ok tt → Writes k.book before after r
       book w e =
           let p : Passed checks = (done_exactly checks given made k hands).0 (ap answer_says e) in
           let same : k.book ≡ made = done_hands_back checks given made k hands e in
@@ -45,8 +44,8 @@ module _ (before after : List ℕ) (r : Written) where
           (subst (λ (c : Book). WritesSheet checks c before after r) (sym same) w)
 
       back : HostHas k before after r → (a : Answer) → k.answer ≡ a → WritesSheet checks made before after r
-      back h Answer.Done e = handed_writes checks given made k hands before after r e (sound e) (h.1 e)
-      back h (Answer.Refused why) e =
+      back h (Ok _) e = handed_writes checks given made k hands before after r e (sound e) (h.1 e)
+      back h (Err why) e =
           let w = h.0 why e in
           rw (w.0, w.1) (handed_refused checks given made k hands why before e)
 

@@ -1,5 +1,8 @@
--- "Running it from an empty book must give a book with every answer alike, and writing that book must give the same bytes." The sheet of a book is
--- accepted, its actions are the filings of the notices that stand, each of these is accepted, and the book that they make is the book itself.
+-- "Run from an empty book, the sheet leads to a book that answers everything alike; and that book, written again, gives the same bytes." The sheet
+-- of a book is accepted, its actions are the filings of the notices that stand, each of these is accepted, and the book that they make is the book
+-- itself.
+use Rattle.actions.specs.Format.{ActionRead, word}
+use Rattle.std.specs.Prelude.{Ok}
 use mathlib.Core.Path.{◌≡◌, refl, sym, ap, ap₂, subst, ◌∙◌}
 use mathlib.Core.Bool.{true, false}
 use mathlib.Core.Logic.{◌⊎◌, inl, inr}
@@ -9,7 +12,7 @@ use native.Mathlib.Decide.{ℕ_discrete}
 use native.Mathlib.Omega.{arith}
 use lib.ListN.{length, take, drop, get_or}
 use lib.Seq.{drop-append-add, take-suc, take-length}
-use Rattle.table.specs.declared.Answer.{Answer}
+use Rattle.table.specs.Reply.{Answer}
 use Rattle.table.specs.Checks.{Check, Passed, Passed.none, Passed.passes}
 use Rattle.fabric.specs.Labels.{outside_sizes}
 use Rattle.notices.specs.declared.Notice.{Notice}
@@ -22,14 +25,12 @@ use Rattle.standing.proofs.Distinct.{at_place}
 use Rattle.actions.specs.declared.Action.{Action}
 use Rattle.actions.specs.Layout.{action_length, bytes_before, filing}
 use Rattle.actions.specs.Rows.{rows}
-use Rattle.actions.specs.Format.{word}
 use Rattle.actions.specs.Entries.{ReadsAction}
 use Rattle.actions.proofs.Laid.{two_lengths, class_last, number_in}
 use Rattle.actions.proofs.Listings.{whole_row, row_at}
 use Rattle.actions.proofs.Actions.{action_once}
 use Rattle.actions.proofs.Exactly.{Spells, action_exactly}
-use Rattle.sheet.specs.declared.Header.{Header}
-use Rattle.sheet.specs.Format.{header_bytes, version_in, size_in, count_in, each_in}
+use Rattle.sheet.specs.Format.{header_bytes, version_in, size_in, count_in, each_in, HeaderRead, headed}
 use Rattle.sheet.specs.Entries.{wrong_mark, header_checks, ReadsHeader, HasAction, part_of}
 use Rattle.sheet.proofs.Meanings.{length_exactly}
 use Rattle.sheet.proofs.Promises.{header_accepts, there_yes, part_there}
@@ -38,14 +39,13 @@ use Rattle.book.specs.declared.Book.{Book}
 use Rattle.book.specs.Standing.{standing, unsound, Sound}
 use Rattle.book.specs.Entries.{opened}
 use Rattle.book.proofs.Counted.{class_held}
-use Rattle.book.proofs.Filings.{sound_if}
 use Rattle.changes.specs.Runs.{Change, run, AllAccepted}
 use Rattle.changes.specs.After.{Changes, Changes.none, Changes.more, After}
-use Rattle.changes.proofs.Sounds.{size_passes, whole}
+use Rattle.book.proofs.Filings.{size_passes, sound_if}
+use Rattle.changes.proofs.Sounds.{whole}
 use Rattle.changes.proofs.Reach.{opened_is, any_order}
 use Rattle.changes.proofs.After.{after_once}
-use Rattle.written.specs.declared.Written.{Written}
-use Rattle.written.specs.Sheets.{version_for, each_for, sheet_of, WritesSheet, Writes}
+use Rattle.written.specs.Sheets.{version_for, each_for, sheet_of, WritesSheet, Writes, Written}
 use Rattle.written.proofs.Definitions.{by_version, version_1_exactly, each_within}
 use Rattle.written.proofs.Handing.{length_sheet, at_most_48}
 use Rattle.written.proofs.Entries.{sheet_answered}
@@ -85,8 +85,8 @@ module _ (b : Book) (places : length b.notices ≡ 48) (ok : unsound b ≡ false
   same_each : each_in (sheet_of b) ≡ each_for (standing b)
   same_each = ap action_length in_header.0
 
-  -- "Write a version 1 sheet", or version 2: it is accepted as one, of the book's size and with an action for each notice that stands,
-  pub header_of_sheet : ReadsHeader (sheet_of b) (Header.Sheet b.n many (version_for (standing b)))
+  -- "A book is written as a sheet": it is accepted as one, of the book's size and with an action for each notice that stands,
+  pub header_of_sheet : ReadsHeader (sheet_of b) (headed b.n many (version_for (standing b)))
   header_of_sheet =
       let c : count_in (sheet_of b) ≡ many = in_header.2 in
       let h = at_most_48 b sound in
@@ -96,11 +96,11 @@ module _ (b : Book) (places : length b.notices ≡ 48) (ok : unsound b ≡ false
       let p : Passed (header_checks (sheet_of b)) = passes in_header.3 (passes right_size (passes ((length_exactly (sheet_of b)).1 (few, long)) none)) in
       header_accepts p (sym c) (sym in_header.0)
 
-  pub header_no_other : (h : Header) → ReadsHeader (sheet_of b) h → h ≡ Header.Sheet b.n many (version_for (standing b))
-  header_no_other h r = header_once (sheet_of b) h (Header.Sheet b.n many (version_for (standing b))) r header_of_sheet
+  pub header_no_other : (h : HeaderRead) → ReadsHeader (sheet_of b) h → h ≡ headed b.n many (version_for (standing b))
+  header_no_other h r = header_once (sheet_of b) h (headed b.n many (version_for (standing b))) r header_of_sheet
 
-  -- "one filing per standing notice": each action is there and is the filing of the notice in its place,
-  pub filing_there : (k : ℕ) → k < many → HasAction (sheet_of b) k Answer.Done
+  -- "a filing of every notice that stands": each action is there and is the filing of the notice in its place,
+  pub filing_there : (k : ℕ) → k < many → HasAction (sheet_of b) k (Ok tt)
   filing_there k h = there_yes header_of_sheet refl h
 
   pub part_of_sheet : (k : ℕ) → k < many → part_of (sheet_of b) k ≡ take (each_for (standing b)) (filing (get_or (standing b) k filler))
@@ -118,11 +118,11 @@ module _ (b : Book) (places : length b.notices ≡ 48) (ok : unsound b ≡ false
   class_in_place k h = class_held b sound (get_or (standing b) k filler) (in_place k h)
 
   -- the part is the filing's eleven bytes, or its ten with class zero
-  spelled_in_sheet : (k : ℕ) → k < many → Spells (part_of (sheet_of b) k) (Action.File (get_or (standing b) k filler))
+  spelled_in_sheet : (k : ℕ) → k < many → Spells (part_of (sheet_of b) k) (Ok (Action.File (get_or (standing b) k filler)))
   spelled_in_sheet k h = go (by_version (standing b))
     where
       go : ((version_for (standing b) ≡ 1) × (some busy (standing b) ≡ false)) ⊎ ((version_for (standing b) ≡ 2) × (some busy (standing b) ≡ true))
-          → Spells (part_of (sheet_of b) k) (Action.File (get_or (standing b) k filler))
+          → Spells (part_of (sheet_of b) k) (Ok (Action.File (get_or (standing b) k filler)))
       go (inl w) =
           let part : part_of (sheet_of b) k ≡ take 10 (filing (get_or (standing b) k filler)) = part_of_sheet k h ∙ ap (λ (v : ℕ). take (action_length v) (filing (get_or (standing b) k filler))) w.0 in
           let low = class_in_place k h in
@@ -133,13 +133,13 @@ module _ (b : Book) (places : length b.notices ≡ 48) (ok : unsound b ≡ false
           let part : part_of (sheet_of b) k ≡ take 11 (filing (get_or (standing b) k filler)) = part_of_sheet k h ∙ ap (λ (v : ℕ). take (action_length v) (filing (get_or (standing b) k filler))) w.0 in
           inl (sym (part ∙ whole_row (get_or (standing b) k filler)))
 
-  pub filing_of_sheet : (k : ℕ) → k < many → ReadsAction (part_of (sheet_of b) k) (Action.File (get_or (standing b) k filler))
-  filing_of_sheet k h = (action_exactly (part_of (sheet_of b) k) (Action.File (get_or (standing b) k filler)) (class_in_place k h)).1 (spelled_in_sheet k h)
+  pub filing_of_sheet : (k : ℕ) → k < many → ReadsAction (part_of (sheet_of b) k) (Ok (Action.File (get_or (standing b) k filler)))
+  filing_of_sheet k h = (action_exactly (part_of (sheet_of b) k) (Ok (Action.File (get_or (standing b) k filler))) (class_in_place k h)).1 (spelled_in_sheet k h)
 
-  pub filing_no_other : (k : ℕ) → k < many → (a : Action) → ReadsAction (part_of (sheet_of b) k) a → a ≡ Action.File (get_or (standing b) k filler)
-  filing_no_other k h a r = action_once (part_of (sheet_of b) k) a (Action.File (get_or (standing b) k filler)) r (filing_of_sheet k h)
+  pub filing_no_other : (k : ℕ) → k < many → (a : ActionRead) → ReadsAction (part_of (sheet_of b) k) a → a ≡ Ok (Action.File (get_or (standing b) k filler))
+  filing_no_other k h a r = action_once (part_of (sheet_of b) k) a (Ok (Action.File (get_or (standing b) k filler))) r (filing_of_sheet k h)
 
-  -- "by rising number": as the bytes have the numbers
+  -- "the lowest number first": as the bytes have the numbers
   number_of_part : (k : ℕ) → k < many → word (part_of (sheet_of b) k) 1 ≡ (get_or (standing b) k filler).number
   number_of_part k h =
       let x : Notice = get_or (standing b) k filler in
@@ -182,28 +182,28 @@ module _ (b : Book) (places : length b.notices ≡ 48) (ok : unsound b ≡ false
   pub runs_to_no_other : (c : Book) → After (sheet_of b) b.n many c → c ≡ b
   runs_to_no_other c w = after_once (sheet_of b) b.n many c b w runs_to_itself
 
-  -- "and writing that book must give the same bytes"
+  -- "that book, written again, gives the same bytes"
   pub written_again : (c : Book) → After (sheet_of b) b.n many c → sheet_of c ≡ sheet_of b
   written_again c w = ap sheet_of (runs_to_no_other c w)
 
   -- The same of what an entry wrote. The bytes that it answers are a sheet; whatever is read of them, whatever book running them makes, and
   -- whatever memory that book is then written into, the bytes are the same.
-  module _ (checks : List Check) (before after : List ℕ) (bytes : ℕ) (writes : WritesSheet checks b before after (Written.Sheet bytes)) where
+  module _ (checks : List Check) (before after : List ℕ) (bytes : ℕ) (writes : WritesSheet checks b before after (Ok bytes)) where
     answered : take bytes after ≡ sheet_of b
-    answered = (sheet_answered checks b before after (Written.Sheet bytes) writes bytes refl).2
+    answered = (sheet_answered checks b before after (Ok bytes) writes bytes refl).2
 
-    pub written_is_accepted : ReadsHeader (take bytes after) (Header.Sheet b.n many (version_for (standing b)))
-    written_is_accepted = subst (λ (sheet : List ℕ). ReadsHeader sheet (Header.Sheet b.n many (version_for (standing b)))) (sym answered) header_of_sheet
+    pub written_is_accepted : ReadsHeader (take bytes after) (headed b.n many (version_for (standing b)))
+    written_is_accepted = subst (λ (sheet : List ℕ). ReadsHeader sheet (headed b.n many (version_for (standing b)))) (sym answered) header_of_sheet
 
     pub written_runs : After (take bytes after) b.n many b
     written_runs = subst (λ (sheet : List ℕ). After sheet b.n many b) (sym answered) runs_to_itself
 
-    pub round_trip : (n count v : ℕ) (c : Book) → ReadsHeader (take bytes after) (Header.Sheet n count v) → After (take bytes after) n count c
-        → (c ≡ b) × ((other left : List ℕ) (long : ℕ) → Writes c other left (Written.Sheet long) → (long ≡ bytes) × (take long left ≡ take bytes after))
+    pub round_trip : (n count v : ℕ) (c : Book) → ReadsHeader (take bytes after) (headed n count v) → After (take bytes after) n count c
+        → (c ≡ b) × ((other left : List ℕ) (long : ℕ) → Writes c other left (Ok long) → (long ≡ bytes) × (take long left ≡ take bytes after))
     round_trip n count v c h w = (same, again)
       where
-        read : Header.Sheet n count v ≡ Header.Sheet b.n many (version_for (standing b))
-        read = header_once (take bytes after) (Header.Sheet n count v) (Header.Sheet b.n many (version_for (standing b))) h written_is_accepted
+        read : headed n count v ≡ headed b.n many (version_for (standing b))
+        read = header_once (take bytes after) (headed n count v) (headed b.n many (version_for (standing b))) h written_is_accepted
 
         same : c ≡ b
         same =
@@ -212,10 +212,10 @@ module _ (b : Book) (places : length b.notices ≡ 48) (ok : unsound b ≡ false
             let f : count ≡ many = cc in
             after_once (take bytes after) b.n many c b (rw (← e, ← f) w) written_runs
 
-        again : (other left : List ℕ) (long : ℕ) → Writes c other left (Written.Sheet long) → (long ≡ bytes) × (take long left ≡ take bytes after)
+        again : (other left : List ℕ) (long : ℕ) → Writes c other left (Ok long) → (long ≡ bytes) × (take long left ≡ take bytes after)
         again other left long u =
-            let o = sheet_answered checks b before after (Written.Sheet bytes) writes bytes refl in
-            let a = sheet_answered _ c other left (Written.Sheet long) u long refl in
+            let o = sheet_answered checks b before after (Ok bytes) writes bytes refl in
+            let a = sheet_answered _ c other left (Ok long) u long refl in
             (a.1 ∙ ap (λ (d : Book). 8 + each_for (standing d) * length (standing d)) same ∙ sym o.1, a.2 ∙ ap sheet_of same ∙ sym o.2)
 
 -- no two books have one sheet

@@ -1,0 +1,2 @@
+-- how a book is made
+pub mod Making
