@@ -1,8 +1,8 @@
-// 16: "a book that an accepted opening, filing and withdrawing cannot produce", in each entry over a book.
-use super::{classed, file, link, links, listing, pattern, switch, withdraw, write};
+// 16: "a book to which no accepted opening, filings and withdrawals lead", in each entry over a book.
+use super::{classed, file, link, listing, withdraw, write};
 use book::Book;
 use notices::Notice;
-use show::word;
+use show::{links, pattern, switch, word};
 
 fn entries(rt: &HostRuntime, why: &[u8], book: Book) {
     word(rt, why);
@@ -10,26 +10,20 @@ fn entries(rt: &HostRuntime, why: &[u8], book: Book) {
     file(rt, book, links(5, 0, 0, 1));
     withdraw(rt, book, 3);
     link(rt, book, 0, 0, 0);
-    let mut memory = [0u8; 33];
-    listing(rt, book, &mut memory);
-    let mut none = [0u8; 0];
-    write(rt, book, &mut none);
+    listing(rt, book, &mut [0u8; 33]);
+    write(rt, book, &mut []);
 }
 
 // A book of size 3 in which the three notices lie in this order.
 pub fn holding(a: Notice, b: Notice, c: Notice) -> Book {
-    let kept = Book::open(3);
-    let mut book = kept.book;
-    book.notices[0] = a;
-    book.notices[1] = b;
-    book.notices[2] = c;
+    let mut book = Book::open(3).book;
+    book.notices[..3].copy_from_slice(&[a, b, c]);
     book.count = 3;
     book
 }
 
 fn sizes(rt: &HostRuntime) {
-    let kept = Book::open(3);
-    let mut book = kept.book;
+    let mut book = Book::open(3).book;
     book.n = 0;
     entries(rt, b"size 0", book);
     book.n = 13;
@@ -39,8 +33,7 @@ fn sizes(rt: &HostRuntime) {
 }
 
 fn counts(rt: &HostRuntime) {
-    let kept = Book::open(3);
-    let mut book = kept.book;
+    let mut book = Book::open(3).book;
     book.count = 1;
     entries(rt, b"count 1, and no notice", book);
     book.count = 49;
@@ -72,13 +65,12 @@ fn places(rt: &HostRuntime) {
     let mut book = holding(x, z, z);
     book.count = 2;
     entries(rt, b"rubbish in an unused place", book);
-    let kept = Book::open(3);
-    let mut last = kept.book;
+    let mut last = Book::open(3).book;
     last.notices[47] = switch(0, 0, 0);
     entries(rt, b"rubbish in the last place", last);
 }
 
-// Document 02, §5: a class above 1, and a class in a place that is not in use.
+// docs/RULES.md, 'Classes': a class above 1, and a class in a place that is not in use.
 fn classes(rt: &HostRuntime) {
     let x = links(1, 0, 0, 1);
     let z = links(4, 2, 2, 4);

@@ -1,17 +1,13 @@
-// "At most 48 notices stand at once."
-use super::{file, links, open, withdraw};
+// "A book has room for 48 notices standing together."
+use super::{file, open, withdraw};
 use book::Book;
-use show::{number, word};
+use show::{links, word};
 
 // Files 48 notices, the highest number first.
 pub fn filled(empty: Book) -> Book {
     let mut book = empty;
-    let mut left: u16 = 48;
-    while 0 < left {
-        let kept = book.file(links(left, 0, left % 8, 1));
-        let after = kept.book;
-        book = after;
-        left -= 1;
+    for number in (1..=48).rev() {
+        book = book.file(links(number, 0, number % 8, 1)).book;
     }
     book
 }
@@ -19,9 +15,7 @@ pub fn filled(empty: Book) -> Book {
 pub fn run(rt: &HostRuntime) {
     word(rt, b"a full book\n");
     let b0 = filled(open(rt, 3));
-    word(rt, b"standing");
-    number(rt, b0.count as u64);
-    word(rt, b"\n");
+    let _ = println!(rt; "standing {}", b0.count);
     let b1 = file(rt, b0, links(49, 1, 0, 1));
     let b2 = file(rt, b1, links(5, 1, 0, 1));
     let b3 = withdraw(rt, b2, 20);

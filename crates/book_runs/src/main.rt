@@ -1,13 +1,10 @@
-// Runs the book's entries on document 01's example 13, on a full book, on every refusal that they give, and on damaged books,
-// and writes a line for each call.
+// Runs the book's entries on example 13, on a full book, on every refusal that they give, and on damaged books, and writes a
+// line for each call.
 #![tactic(auto)]
 
 use book::{Book, Kept};
-use notices::{Notice, Target};
-use questions::{Link, Listing};
-use show::{number, refused, word};
-use table::Answer;
-use written::Written;
+use notices::Notice;
+use show::{links, pattern, refused, switch, word};
 
 mod full; // full.rt: 48 filings and the 49th
 mod refusals; // refusals.rt: each number of the table
@@ -31,121 +28,63 @@ fn main(rt: HostRuntime) {
 }
 
 // Writes the answer, and hands on the book.
+// The arms do different things: a match is plainest.
 fn told(rt: &HostRuntime, kept: Kept) -> Book {
-    let answer = kept.answer;
-    match answer {
-        Answer::Done => word(rt, b" OK"),
-        Answer::Refused(why) => refused(rt, why),
+    match kept.answer {
+        Ok(()) => word(rt, b" OK"),
+        Err(why) => refused(rt, why),
     }
     word(rt, b"\n");
     kept.book
 }
 
-pub fn links(number: u16, stage: u8, switch: u16, set: u8) -> Notice {
-    Notice {
-        number,
-        target: Target::Links { stage, switch, set },
-        class: 0,
-    }
-}
-
-pub fn switch(number: u16, column: u8, switch: u16) -> Notice {
-    Notice {
-        number,
-        target: Target::Switch { column, switch },
-        class: 0,
-    }
-}
-
-pub fn pattern(number: u16, stage: u8, value: u16, mask: u16, set: u8) -> Notice {
-    Notice {
-        number,
-        target: Target::Pattern {
-            stage,
-            value,
-            mask,
-            set,
-        },
-        class: 0,
-    }
-}
-
 // The notice with another class.
 pub fn classed(notice: Notice, class: u8) -> Notice {
-    let target = notice.target;
-    Notice {
-        number: notice.number,
-        target,
-        class,
-    }
+    Notice { class, ..notice }
 }
 
 pub fn open(rt: &HostRuntime, n: u8) -> Book {
-    word(rt, b"open");
-    number(rt, n as u64);
+    let _ = print!(rt; "open {n}");
     told(rt, Book::open(n))
 }
 
 pub fn file(rt: &HostRuntime, book: Book, notice: Notice) -> Book {
-    word(rt, b"file");
-    number(rt, notice.number as u64);
+    let _ = print!(rt; "file {}", notice.number);
     told(rt, book.file(notice))
 }
 
-pub fn withdraw(rt: &HostRuntime, book: Book, k: u16) -> Book {
-    word(rt, b"withdraw");
-    number(rt, k as u64);
-    told(rt, book.withdraw(k))
+pub fn withdraw(rt: &HostRuntime, book: Book, number: u16) -> Book {
+    let _ = print!(rt; "withdraw {number}");
+    told(rt, book.withdraw(number))
 }
 
 // A link by stage, switch and code.
 pub fn link(rt: &HostRuntime, book: Book, stage: u8, switch: u16, code: u8) {
-    word(rt, b"link");
-    number(rt, stage as u64);
-    number(rt, switch as u64);
-    number(rt, code as u64);
-    match asked::link(book, stage, switch, code) {
-        Link::Clear => word(rt, b" CLEAR"),
-        Link::Stopped(by) => {
-            word(rt, b" STOPPED BY");
-            number(rt, by as u64);
-        }
-        Link::Refused(why) => refused(rt, why),
-    }
-    word(rt, b"\n");
+    let _ = print!(rt; "link {stage} {switch} {code}");
+    let _ = match asked::link(book, stage, switch, code) {
+        Ok(None) => println!(rt; " CLEAR"),
+        Ok(Some(by)) => println!(rt; " STOPPED BY {by}"),
+        Err(why) => println!(rt; " REFUSED {}", why.number()),
+    };
 }
 
 pub fn listing(rt: &HostRuntime, book: Book, memory: &mut [u8]) {
-    word(rt, b"listing in");
-    number(rt, memory.len() as u64);
-    match asked::listing(book, memory) {
-        Listing::Listed(count) => listed(rt, count),
-        Listing::Refused(why) => refused(rt, why),
-    }
-    word(rt, b"\n");
+    let _ = print!(rt; "listing in {}", memory.len());
+    let _ = match asked::listing(book, memory) {
+        Ok(count) => println!(rt; " LISTED {count}"),
+        Err(why) => println!(rt; " REFUSED {}", why.number()),
+    };
 }
 
 pub fn write(rt: &HostRuntime, book: Book, memory: &mut [u8]) {
-    word(rt, b"write in");
-    number(rt, memory.len() as u64);
-    match writer::write(book, memory) {
-        Written::Sheet(bytes) => wrote(rt, bytes),
-        Written::Refused(why) => refused(rt, why),
-    }
-    word(rt, b"\n");
+    let _ = print!(rt; "write in {}", memory.len());
+    let _ = match writer::write(book, memory) {
+        Ok(bytes) => println!(rt; " SHEET {bytes}"),
+        Err(why) => println!(rt; " REFUSED {}", why.number()),
+    };
 }
 
-fn wrote(rt: &HostRuntime, bytes: u16) {
-    word(rt, b" SHEET");
-    number(rt, bytes as u64);
-}
-
-fn listed(rt: &HostRuntime, count: usize) {
-    word(rt, b" LISTED");
-    number(rt, count as u64);
-}
-
-// Example 13: "notices 7 and 8 name one link, 7 withdrawn: still stopped."
+// Example 13: "One link is named by 7 and by 8, and 7 is withdrawn: the link stays stopped."
 fn example_13(rt: &HostRuntime) {
     word(rt, b"example 13\n");
     let b0 = open(rt, 3);
@@ -158,7 +97,7 @@ fn example_13(rt: &HostRuntime) {
     link(rt, b4, 0, 1, 2);
 }
 
-// "A withdrawn notice's number and place can be used again."
+// "After a withdrawal the number is free again, and so is the place."
 fn used_again(rt: &HostRuntime) {
     word(rt, b"used again\n");
     let b0 = open(rt, 3);
@@ -173,7 +112,7 @@ fn used_again(rt: &HostRuntime) {
     link(rt, b6, 2, 0, 0);
 }
 
-// "It stops the switch's input links", reduced modulo N; plus and minus at the last stage.
+// "it names three links of stage i-1, those that end at j", reduced modulo N; plus and minus at the last stage.
 fn inputs(rt: &HostRuntime) {
     word(rt, b"input links\n");
     let b0 = open(rt, 3);
@@ -193,7 +132,7 @@ fn inputs(rt: &HostRuntime) {
     link(rt, b3, 2, 5, 2);
 }
 
-// Document 02, §3: "a switch notice in column 0 stops the three output links of that switch at stage 0", and no others.
+// docs/RULES.md, 'Notices': "In column 0, where no link ends, it names the three links of stage 0 that leave the switch", and no others.
 fn outputs(rt: &HostRuntime) {
     word(rt, b"output links\n");
     let b0 = open(rt, 3);
@@ -209,7 +148,7 @@ fn outputs(rt: &HostRuntime) {
     link(rt, b2, 0, 5, 0);
 }
 
-// Document 02, §2: the lowest number among the notices that stop the link, whatever was filed first and whatever its target.
+// docs/RULES.md, 'The book': the lowest number among the notices that stop the link, whatever was filed first and whatever its target.
 fn lowest(rt: &HostRuntime) {
     word(rt, b"lowest number\n");
     let b0 = open(rt, 3);

@@ -1,10 +1,10 @@
-// Document 02, §4: the link test's pass looks at every place, goes on where it has found a notice that stops the link, and judges 16 before 4 and 12.
+// docs/RULES.md, 'Entries': the link test's pass looks at every place, goes on where it has found a notice that stops the link, and judges 16 before 4 and 12.
 use super::damaged::holding;
 use super::full::filled;
-use super::{link, links, open, pattern, switch};
+use super::{link, open};
 use book::Book;
 use notices::Notice;
-use show::word;
+use show::{links, pattern, switch, word};
 
 // A link that each of three notices names.
 fn asked(rt: &HostRuntime, what: &[u8], book: Book) {

@@ -2,24 +2,23 @@
 // input, each after its length in two bytes; sheets.txt says what they are. Then a sheet is run into memory that is too short.
 #![tactic(auto)]
 
-ghost use Rattle.std.specs.Prelude.{◌+◌, ◌≤◌, ◌<◌, length};
+ghost use Rattle.std.specs.Prelude.{◌≤◌, ◌<◌, length, IfSome};
 
-use printed::{MOST_ROOM, Ran};
+use printed::MOST_ROOM;
 use std::io::Read;
-use table::Refusal;
 
+// Fixed memory, no heap: how much a run uses is known.
 fn main(rt: HostRuntime) {
     let mut memory = [0u8; 98304];
     let bytes = read_full(&mut rt.stdin(), &mut memory);
     run_all(&rt, &memory[..bytes]);
     let empty = [b'F', b'S', b'H', 0, 1, 3, 0, 0];
-    let mut short = [0u8; 23];
-    run(&rt, &empty, &mut short);
-    let mut enough = [0u8; 24];
-    run(&rt, &empty, &mut enough);
+    run(&rt, &empty, &mut [0u8; 23]);
+    run(&rt, &empty, &mut [0u8; 24]);
 }
 
-// Reads until the input ends, the memory is full or a read fails, and answers how many bytes came.
+// Reads until the input ends, the memory is full or a read fails, and answers how many bytes came: these sheets are run, also after a read that failed, so
+// `streams::read` does not serve here (this program may not change what it does).
 fn read_full<R: Read>(reader: &mut R, memory: &mut [u8]) -> usize
     ensures { result ≤ length memory.new }
 {
@@ -34,55 +33,34 @@ fn read_full<R: Read>(reader: &mut R, memory: &mut [u8]) -> usize
     bytes
 }
 
+// Runs each sheet until the input ends, or ends within one.
 fn run_all(rt: &HostRuntime, sheets: &[u8]) {
-    let mut at = 0;
-    while at < sheets.len() {
-        at = run_next(rt, sheets, at);
+    let mut rest = sheets;
+    while let Some((sheet, after)) = next(rest) {
+        run(rt, sheet, &mut [0u8; MOST_ROOM]);
+        rest = after;
     }
 }
 
-// Runs the sheet at a place, and answers the place after it.
-fn run_next(rt: &HostRuntime, sheets: &[u8], at: usize) -> usize
-    requires { at < length sheets.now }
-    ensures { (at < result) × (result ≤ length sheets.now) }
+// The first sheet, and what lies after it.
+fn next<'a>(sheets: &'a [u8]) -> Option<(&'a [u8], &'a [u8])>
+    ensures { IfSome result (λ parts. length parts.1.now < length sheets.now) }
 {
-    let all = sheets.len();
-    if all - at < 2 {
-        return all;
-    }
-    let start = at + 2;
-    let bytes = wide(sheets[at]) * 256 + wide(sheets[at + 1]);
-    if all - start < bytes {
-        return all;
-    }
-    let end = start + bytes;
-    let mut lines = [0u8; MOST_ROOM];
-    run(rt, &sheets[start..end], &mut lines);
-    end
+    let (length, rest) = sheets.split_first_chunk::<2>()?;
+    rest.split_at_checked(usize::from(u16::from_be_bytes(*length)))
 }
 
-fn wide(x: u8) -> usize
-    ensures { result < 256 }
-{
-    x as usize
-}
-
+// The arms do different things: a match is plainest.
 fn run(rt: &HostRuntime, sheet: &[u8], memory: &mut [u8]) {
     match printer::run(sheet, memory) {
-        Ran::Printed(bytes) => print(rt, memory, bytes),
-        Ran::Refused(why) => refused(rt, why),
+        Ok(bytes) => {
+            show::word(rt, &memory[..bytes]);
+            show::word(rt, b"\n");
+        }
+        Err(why) => {
+            show::word(rt, b"MEMORY");
+            show::refused(rt, why);
+            show::word(rt, b"\n\n");
+        }
     }
-}
-
-fn print(rt: &HostRuntime, memory: &[u8], bytes: usize)
-    requires { bytes ≤ length memory.now }
-{
-    show::word(rt, &memory[..bytes]);
-    show::word(rt, b"\n");
-}
-
-fn refused(rt: &HostRuntime, why: Refusal) {
-    show::word(rt, b"MEMORY");
-    show::refused(rt, why);
-    show::word(rt, b"\n\n");
 }

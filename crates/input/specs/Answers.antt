@@ -1,16 +1,22 @@
--- Document 01, 'The sheet and what is printed': what a program answers by what it read, and what the program of document 01 writes. "The
--- program reads a sheet on standard input".
-use Rattle.std.specs.Prelude.{◌≡◌, List, [], ◌++◌, ℕ, ◌≤◌, length, take, drop}
-use Rattle.sheet.specs.declared.Header.{Header}
+-- docs/RULES.md, 'What is printed': what a program answers by what it read, and what the program that runs a sheet writes. "The program
+-- takes a sheet from standard input".
+use Rattle.sheet.specs.Format.{HeaderRead}
+use Rattle.std.specs.Prelude.{◌≡◌, List, [], ◌++◌, ℕ, ◌≤◌, length, take, drop, Option, Some, None}
 use Rattle.sheet.specs.Entries.{ReadsHeader}
 use Rattle.printed.specs.Runs.{Prints}
-use Rattle.input.specs.declared.Input.{Input}
-use Rattle.input.specs.declared.Output.{Output}
+
+-- What reading the input gives: how many bytes lie at the front of the memory, or nothing, since a read failed.
+abbrev pub Input : Type 0
+Input = Option ℕ
+
+-- What is written then: so many bytes at the front of the lines, or nothing, since the input could not be read.
+abbrev pub Output : Type 0
+Output = Option ℕ
 
 -- what reading gives lies within the memory: so many bytes are there to be taken, `within_exactly`
 abbrev pub Within : ℕ → Input → Type 0
-Within room (Input.Bytes bytes) = bytes ≤ room
-Within room Input.Failed = Unit
+Within room (Some bytes) = bytes ≤ room
+Within room None = Unit
 
 -- the first bytes of the memory are the input, all of it or as much of it as the memory holds: `read_is_held` says that this is so where
 -- what came was put there from the front on
@@ -21,9 +27,9 @@ Holds memory bytes input = take bytes memory ≡ take (length memory) input
 -- where a read failed. `unread_exactly` says that this is the answer exactly where a read failed, `answers_once` that no second answer is left.
 pub record Answers {A : Type 0} (writes : List ℕ → List ℕ → A → List ℕ → Type 0) (unread : A) (memory : List ℕ) (read : Input) (before : List ℕ) (answer : A) (after : List ℕ) : Type 0 where
   -- what was read is answered as the input that it is the front of
-  pub whole : (bytes : ℕ) (input : List ℕ) → read ≡ Input.Bytes bytes → Holds memory bytes input → writes input before answer after
+  pub whole : (bytes : ℕ) (input : List ℕ) → read ≡ Some bytes → Holds memory bytes input → writes input before answer after
   -- where a read failed nothing is written
-  pub failed : read ≡ Input.Failed → (answer ≡ unread) × (after ≡ before)
+  pub failed : read ≡ None → (answer ≡ unread) × (after ≡ before)
 
 -- what a program may hand to standard output: a memory and an answer that are promised of some input, so the bytes at its front are what is
 -- written of that input and no others
@@ -32,18 +38,18 @@ Promised writes unread memory answer = (input : List ℕ) × (read : Input) × (
 
 -- the text of this sheet lies at the front of the memory, the rest is as before, and the answer is how long the text is: `text_once`
 pub record WritesText (sheet before : List ℕ) (answer : Output) (after : List ℕ) : Type 0 where
-  pub header : Header
+  pub header : HeaderRead
   pub text : List ℕ
   pub reads : ReadsHeader sheet header
   pub prints : Prints sheet header text
-  pub tells : answer ≡ Output.Text (length text)
+  pub tells : answer ≡ Some (length text)
   pub leaves : after ≡ text ++ drop (length text) before
 
--- what the program of document 01 answers: `text_unread_exactly`, `text_answers_once`
+-- what the program that runs a sheet answers: `text_unread_exactly`, `text_answers_once`
 abbrev pub AnswersText : (memory : List ℕ) (read : Input) (before : List ℕ) (answer : Output) (after : List ℕ) → Type 0
-AnswersText = Answers WritesText Output.Unread
+AnswersText = Answers WritesText None
 
 -- What goes to standard output then: the text and nothing else, `prints_the_text`; nothing where a read failed, `unread_prints_nothing`.
 abbrev pub text_printed : (lines : List ℕ) → Output → List ℕ
-text_printed lines (Output.Text bytes) = take bytes lines
-text_printed lines Output.Unread = []
+text_printed lines (Some bytes) = take bytes lines
+text_printed lines None = []

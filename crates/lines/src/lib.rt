@@ -1,5 +1,5 @@
-// Document 01, 'The sheet and what is printed': the lines of actions by what their entries answered, written at a place of lent memory.
-// Each function answers the place after its line.
+// docs/RULES.md, 'What is printed': the lines of actions by what their entries answered, written at a place of lent memory. Each
+// function answers the place after its line.
 #![tactic(auto)]
 
 ghost use Rattle.std.specs.Prelude.{◌+◌, ◌≤◌, ◌++◌, length};
@@ -10,26 +10,29 @@ ghost use Rattle.printed.specs.Runs.{action_room};
 ghost use Rattle.words.specs.Wrote.{Wrote};
 
 use answers::{answer_told, found_told};
-use routes::Found;
-use table::{Answer, Refusal};
+use fabric::Fabric;
+use routes::NoRoute;
+use table::Refusal;
 use words::{named_number, refusal_told, word};
 
-pub fn file_line(k: u16, answer: Answer, out: &mut [u8], at: usize) -> usize
+// One call, under a promise of its own.
+pub fn file_line(k: u16, answer: Result<(), Refusal>, out: &mut [u8], at: usize) -> usize
     requires { at + action_room ≤ length out.old }
     ensures { (Wrote out.old at (file_line k answer) out.new result) × (result ≤ at + action_room) }
 {
     notice_line(b"FILE ", k, answer, out, at)
 }
 
-pub fn withdraw_line(k: u16, answer: Answer, out: &mut [u8], at: usize) -> usize
+// One call, under a promise of its own.
+pub fn withdraw_line(k: u16, answer: Result<(), Refusal>, out: &mut [u8], at: usize) -> usize
     requires { at + action_room ≤ length out.old }
     ensures { (Wrote out.old at (withdraw_line k answer) out.new result) × (result ≤ at + action_room) }
 {
     notice_line(b"WITHDRAW ", k, answer, out, at)
 }
 
-// "`FILE` or `WITHDRAW` is followed by the notice number and `OK`, or `REFUSED` and the table number."
-fn notice_line(name: &[u8], k: u16, answer: Answer, out: &mut [u8], at: usize) -> usize
+// "After `FILE` or `WITHDRAW` come the number of the notice and `OK`, or `REFUSED` and the number of the refusal."
+fn notice_line(name: &[u8], k: u16, answer: Result<(), Refusal>, out: &mut [u8], at: usize) -> usize
     requires { (length name.now ≤ 9) × (at + action_room ≤ length out.old) }
     ensures { (Wrote out.old at (name.now ++ decimal k ++ ending (told answer)) out.new result) × (result ≤ at + action_room) }
 {
@@ -37,24 +40,24 @@ fn notice_line(name: &[u8], k: u16, answer: Answer, out: &mut [u8], at: usize) -
     answer_told(out, end, answer)
 }
 
-// "`ROUTE` is followed by source, destination and .."
+// "After `ROUTE` come source and destination"
 pub fn route_line(
-    n: u8,
+    fabric: Fabric,
     source: u16,
     destination: u16,
-    answer: Found,
+    answer: Result<u32, NoRoute>,
     out: &mut [u8],
     at: usize,
 ) -> usize
-    requires { (n ≤ 12) × (at + action_room ≤ length out.old) }
-    ensures { (Wrote out.old at (route_line n source destination answer) out.new result) × (result ≤ at + action_room) }
+    requires { at + action_room ≤ length out.old }
+    ensures { (Wrote out.old at (route_line fabric.n source destination answer) out.new result) × (result ≤ at + action_room) }
 {
     let between = named_number(out, at, b"ROUTE ", source);
     let end = named_number(out, between, b" ", destination);
-    found_told(n, out, end, answer)
+    found_told(fabric, out, end, answer)
 }
 
-// "A layout fault prints `ACTION REFUSED 2`."
+// "An action with a fault of layout prints `ACTION REFUSED 2`."
 pub fn fault_line(why: Refusal, out: &mut [u8], at: usize) -> usize
     requires { at + action_room ≤ length out.old }
     ensures { (Wrote out.old at (fault_line why) out.new result) × (result ≤ at + action_room) }

@@ -12,7 +12,7 @@ use Rattle.fabric.specs.Labels.{bit}
 use Rattle.table.specs.Checks.{◌below◌}
 use Rattle.printed.specs.Words.{ascii, decimal_in, decimal, bits_from, tag_bits}
 
--- numbers, and the bits of a tag, as 01 writes them
+-- numbers, and the bits of a tag, as docs/RULES.md writes them
 pub numbers_spelled : decimal 0 ∷ decimal 10 ∷ decimal 4096 ∷ decimal 65535 ∷ tag_bits 3 8 ∷ []
     ≡ ascii "0" ∷ ascii "10" ∷ ascii "4096" ∷ ascii "65535" ∷ ascii "000100" ∷ []
 unfolding decimal_in bits_from
@@ -40,7 +40,7 @@ unfolding decimal_in
 decimal_more x h =
     rw (le-ltb x 10 h) (ap (λ (l : List ℕ). l ++ (48 + x % 10) ∷ []) (most_any x (suc (x / 10)) (x / 10) (omega arith) (omega arith)))
 
--- "bits .. in that order"
+-- "the 2n bits of the tag, bit 0 first"
 pub length_bits : (i left x : ℕ) → length (bits_from i left x) ≡ left
 unfolding bits_from
 length_bits i zero x = refl
@@ -53,7 +53,7 @@ bits_at i (suc left) x zero h = ap (λ (m : ℕ). 48 + bit m x) {x = i} {y = i +
 bits_at i (suc left) x (suc k) h =
     bits_at (suc i) left x k (omega arith) ∙ ap (λ (m : ℕ). 48 + bit m x) {x = suc i + k} {y = i + suc k} (omega arith)
 
--- "`TAG` with bits 0 to 2n-1 in that order"
+-- "`TAG` and the 2n bits of the tag, bit 0 first"
 pub tag_bits_at : (n tag : ℕ) → (length (tag_bits n tag) ≡ 2 * n) × ((k : ℕ) → k < 2 * n → get_or (tag_bits n tag) k 0 ≡ 48 + bit k tag)
 tag_bits_at n tag = (length_bits 0 (2 * n) tag, λ k h. bits_at 0 (2 * n) tag k h ∙ ap (λ (i : ℕ). 48 + bit i tag) (zero-add k))
 

@@ -1,4 +1,6 @@
 -- A text has as many lines as its header says, each with LF at its end, so a text that is cut short is seen by counting.
+use Rattle.std.specs.Prelude.{Ok, Err}
+use Rattle.sheet.specs.Format.{HeaderRead}
 use mathlib.Core.Path.{◌≡◌, refl, sym, ap, ◌∙◌}
 use mathlib.Core.Logic.{◌⊎◌, inl, inr}
 use mathlib.Core.List.{List, [], ◌∷◌, ◌++◌, append_assoc, append-nil}
@@ -6,7 +8,6 @@ use Prim.Native.Nat.{ℕ, ◌≤◌, ◌<◌, ◌+◌}
 use native.Mathlib.Omega.{arith}
 use borrow.Author.Tests.{ne_eqb}
 use Rattle.table.specs.declared.Refusal.{Refusal}
-use Rattle.sheet.specs.declared.Header.{Header}
 use Rattle.printed.specs.Words.{decimal, refusal, SHEET}
 use Rattle.printed.specs.Text.{sheet_line, refused_sheet}
 use Rattle.printed.specs.Runs.{Lines, Lines.start, Lines.more, Prints}
@@ -31,7 +32,7 @@ one_end one =
     let p = plain_ends one.before one.plain in
     omega arith
 
--- "a line per action"
+-- "For every action comes one line more"
 pub line_for_each : {sheet : List ℕ} {n : ℕ} {text : List ℕ} {k : ℕ} → Lines sheet n k text → line_ends text ≡ k
 line_for_each start = refl
 line_for_each {n = n} (more {k = k} {text = text} {next = next} {b = b} v made p) =
@@ -40,21 +41,21 @@ line_for_each {n = n} (more {k = k} {text = text} {next = next} {b = b} v made p
     let rest = line_for_each v in
     omega arith
 
--- "First line: `SHEET n count`, or only `SHEET REFUSED k`."
+-- "The first line is `SHEET n count`, or, where the header is refused, `SHEET REFUSED k` and nothing after it."
 first_ends : (n count : ℕ) → OneLine (sheet_line n count)
 first_ends n count = line_feed_last SHEET (decimal n ∷ decimal count ∷ []) ten_are_words.0 (decimal_is_a_word n, (decimal_is_a_word count, tt))
 
 refused_ends : (why : Refusal) → OneLine (refused_sheet why)
 refused_ends why = line_feed_last SHEET (refusal why) ten_are_words.0 (refusal_in_words why)
 
-pub text_lines : (sheet : List ℕ) (h : Header) (text : List ℕ) → Prints sheet h text → line_ends text ≡ lines_of h
-text_lines sheet (Header.Sheet n count version) text p =
-    let w = first_line sheet n count version text p in
-    let e = ap line_ends w.2 ∙ ends_append (sheet_line n count) w.0 in
-    let first = one_end (first_ends n count) in
+pub text_lines : (sheet : List ℕ) (h : HeaderRead) (text : List ℕ) → Prints sheet h text → line_ends text ≡ lines_of h
+text_lines sheet (Ok head) text p =
+    let w = first_line sheet head.n head.count head.version text p in
+    let e = ap line_ends w.2 ∙ ends_append (sheet_line head.n head.count) w.0 in
+    let first = one_end (first_ends head.n head.count) in
     let rest = line_for_each w.1 in
     omega arith
-text_lines sheet (Header.Refused why) text p = ap line_ends (refused_text sheet why text p) ∙ one_end (refused_ends why)
+text_lines sheet (Err why) text p = ap line_ends (refused_text sheet why text p) ∙ one_end (refused_ends why)
 
 -- and LF is its last byte
 lines_closed : {sheet text : List ℕ} {n k : ℕ} → Lines sheet n k text → (text ≡ []) ⊎ ((front : List ℕ) × (text ≡ front ++ 10 ∷ []))
@@ -63,16 +64,19 @@ lines_closed {n = n} (more {text = text} {next = next} {b = b} v made p) =
     let one = line_is_one n b next p.action p.tells in
     inr (text ++ one.before, ap (λ (l : List ℕ). text ++ l) one.closed ∙ sym (append_assoc text one.before (10 ∷ [])))
 
-pub text_closed : (sheet : List ℕ) (h : Header) (text : List ℕ) → Prints sheet h text → (front : List ℕ) × (text ≡ front ++ 10 ∷ [])
-text_closed sheet (Header.Sheet n count version) text p = go (first_line sheet n count version text p)
+pub text_closed : (sheet : List ℕ) (h : HeaderRead) (text : List ℕ) → Prints sheet h text → (front : List ℕ) × (text ≡ front ++ 10 ∷ [])
+text_closed sheet (Ok head) text p = go (first_line sheet head.n head.count head.version text p)
   where
-    end : (lines : List ℕ) → (lines ≡ []) ⊎ ((front : List ℕ) × (lines ≡ front ++ 10 ∷ [])) → (front : List ℕ) × (sheet_line n count ++ lines ≡ front ++ 10 ∷ [])
-    end lines (inl e) = ((first_ends n count).before, ap (λ (l : List ℕ). sheet_line n count ++ l) e ∙ append-nil (sheet_line n count) ∙ (first_ends n count).closed)
-    end lines (inr w) = (sheet_line n count ++ w.0, ap (λ (l : List ℕ). sheet_line n count ++ l) w.1 ∙ sym (append_assoc (sheet_line n count) w.0 (10 ∷ [])))
+    first : List ℕ
+    first = sheet_line head.n head.count
 
-    go : (lines : List ℕ) × Lines sheet n count lines × (text ≡ sheet_line n count ++ lines) → (front : List ℕ) × (text ≡ front ++ 10 ∷ [])
+    end : (lines : List ℕ) → (lines ≡ []) ⊎ ((front : List ℕ) × (lines ≡ front ++ 10 ∷ [])) → (front : List ℕ) × (first ++ lines ≡ front ++ 10 ∷ [])
+    end lines (inl e) = let one = first_ends head.n head.count in (one.before, ap (λ (l : List ℕ). first ++ l) e ∙ append-nil first ∙ one.closed)
+    end lines (inr w) = (first ++ w.0, ap (λ (l : List ℕ). first ++ l) w.1 ∙ sym (append_assoc first w.0 (10 ∷ [])))
+
+    go : (lines : List ℕ) × Lines sheet head.n head.count lines × (text ≡ first ++ lines) → (front : List ℕ) × (text ≡ front ++ 10 ∷ [])
     go w = let e = end w.0 (lines_closed w.1) in (e.0, w.2 ∙ e.1)
-text_closed sheet (Header.Refused why) text p = ((refused_ends why).before, refused_text sheet why text p ∙ (refused_ends why).closed)
+text_closed sheet (Err why) text p = ((refused_ends why).before, refused_text sheet why text p ∙ (refused_ends why).closed)
 
 -- what is cut off the end of such a text takes a line's end with it
 cut_has_end : (part : List ℕ) (x : ℕ) (rest front : List ℕ) → part ++ x ∷ rest ≡ front ++ 10 ∷ [] → 1 ≤ line_ends (x ∷ rest)
@@ -91,7 +95,7 @@ cut_has_end (y ∷ part) x rest (z ∷ front) e =
     cut_has_end part x rest front f
 
 -- so a text that is cut short has fewer lines than its header says: this is what a script can test, since a program has no status
-pub cut_is_seen : (sheet : List ℕ) (h : Header) (text : List ℕ) (part : List ℕ) (x : ℕ) (rest : List ℕ) → Prints sheet h text → text ≡ part ++ x ∷ rest → line_ends part < lines_of h
+pub cut_is_seen : (sheet : List ℕ) (h : HeaderRead) (text : List ℕ) (part : List ℕ) (x : ℕ) (rest : List ℕ) → Prints sheet h text → text ≡ part ++ x ∷ rest → line_ends part < lines_of h
 cut_is_seen sheet h text part x rest p e =
     let w = text_closed sheet h text p in
     let cut = cut_has_end part x rest w.0 (sym e ∙ w.1) in

@@ -1,4 +1,5 @@
 -- A run refuses by its one check, or prints what its header asks.
+use Rattle.std.specs.Prelude.{Ok, Err}
 use mathlib.Core.Path.{◌≡◌, refl, sym, ap, ◌∙◌}
 use mathlib.Core.Bool.{not}
 use mathlib.Core.Logic.{◌⊎◌, inl, inr}
@@ -12,17 +13,15 @@ use Rattle.table.specs.declared.Refusal.{Refusal}
 use Rattle.table.specs.Reply.{Reply.accepted, refused}
 use Rattle.table.specs.Checks.{Given, Passed, Passed.none, Passed.passes, ◌below◌}
 use Rattle.table.proofs.Checks.{given_or_passed, given_once, not_given_and_passed, passed_nth, neither, zero_one}
-use Rattle.sheet.specs.declared.Header.{Header}
 use Rattle.actions.specs.Layout.{bytes_before}
-use Rattle.sheet.specs.Format.{count_in, each_in}
+use Rattle.sheet.specs.Format.{count_in, each_in, HeaderRead, headed}
 use Rattle.sheet.specs.Entries.{header_checks, ReadsHeader}
 use Rattle.sheet.proofs.Promises.{header_passed, header_fields}
-use Rattle.printed.specs.declared.Ran.{Ran}
 use Rattle.printed.proofs.Texts.{thirteen_exactly}
-use Rattle.printed.specs.Runs.{Prints, room, most_room, run_checks, ran_says, RunsBy, Runs}
+use Rattle.printed.specs.Runs.{Prints, room, most_room, run_checks, ran_says, RunsBy, Runs, Ran}
 
-module _ (sheet : List ℕ) (header : Header) (before : List ℕ) where
-  pub runs_short : length before < room header → RunsBy sheet header before (Ran.Refused Refusal.Room) before
+module _ (sheet : List ℕ) (header : HeaderRead) (before : List ℕ) where
+  pub runs_short : length before < room header → RunsBy sheet header before (Err Refusal.Room) before
   runs_short h =
       let g = (thirteen_exactly header before).1 h in
       record {
@@ -32,7 +31,7 @@ module _ (sheet : List ℕ) (header : Header) (before : List ℕ) where
 
   pub runs_whole : (text : List ℕ) {after : List ℕ} {bytes : ℕ}
       → room header ≤ length before → Prints sheet header text → bytes ≡ length text → after ≡ text ++ drop (length text) before → bytes ≤ room header
-      → RunsBy sheet header before (Ran.Printed bytes) after
+      → RunsBy sheet header before (Ok bytes) after
   runs_whole text h p l leaves short =
       let q : Passed (run_checks header before) = passes (le-ltb (length before) (room header) h) none in
       record {
@@ -40,25 +39,25 @@ module _ (sheet : List ℕ) (header : Header) (before : List ℕ) where
         prints = λ r. (text, p, ap (λ (k : ℕ). accepted (k ∷ [])) l, leaves, omega arith);
       }
 
-pub runs_as : {sheet before after : List ℕ} {r : Ran} {h told : Header}
+pub runs_as : {sheet before after : List ℕ} {r : Ran} {h told : HeaderRead}
     → ReadsHeader sheet h → h ≡ told → RunsBy sheet told before r after → Runs sheet before r after
 runs_as {told = told} reads e w = record { header = told; reads = rw e at reads; runs = w }
 
 -- no header that is accepted asks for more room than 4,096 actions do
-pub room_within : {sheet : List ℕ} (h : Header) → ReadsHeader sheet h → room h ≤ most_room
-room_within {sheet} (Header.Sheet n count version) q =
+pub room_within : {sheet : List ℕ} (h : HeaderRead) → ReadsHeader sheet h → room h ≤ most_room
+room_within {sheet} (Ok head) q =
     let l = (neither (4096 below count_in sheet) (not (eqb (length sheet) (bytes_before (each_in sheet) (count_in sheet)))) (passed_nth (header_checks sheet) 2 (header_passed q))).0 in
     let few = ltb-false 4096 (count_in sheet) l in
     let same = (header_fields q).1 in
     omega arith
-room_within {sheet} (Header.Refused why) q = omega arith
+room_within {sheet} (Err why) q = omega arith
 
 -- and 4,096 actions ask for all of it
-pub most_is_asked : (n version : ℕ) → room (Header.Sheet n 4096 version) ≡ most_room
+pub most_is_asked : (n version : ℕ) → room (headed n 4096 version) ≡ most_room
 most_is_asked n version = refl
 
 -- where bytes were printed they are a text's, at the front of the memory and within the room
-module _ {sheet before after : List ℕ} {r : Ran} {bytes : ℕ} (w : Runs sheet before r after) (e : r ≡ Ran.Printed bytes) where
+module _ {sheet before after : List ℕ} {r : Ran} {bytes : ℕ} (w : Runs sheet before r after) (e : r ≡ Ok bytes) where
   printed_text : (text : List ℕ) × (bytes ≡ length text) × (after ≡ text ++ drop (length text) before) × (length text ≤ room w.header)
   printed_text = go (given_or_passed (run_checks w.header before))
     where

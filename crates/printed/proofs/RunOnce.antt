@@ -1,4 +1,6 @@
 -- What a run prints is determined: no sheet has a second text.
+use Rattle.sheet.specs.Format.{HeaderRead}
+use Rattle.std.specs.Prelude.{Ok, Err}
 use mathlib.Core.Path.{◌≡◌, refl, sym, ap, ap₂, ◌∙◌}
 use mathlib.Core.Logic.{◌⊎◌, inl, inr}
 use mathlib.Core.List.{List, [], ◌∷◌, ◌++◌}
@@ -10,13 +12,11 @@ use Rattle.table.specs.Checks.{Given, Passed}
 use Rattle.table.proofs.Numbers.{number_tells}
 use Rattle.table.proofs.Checks.{given_or_passed, zero_one}
 use Rattle.changes.proofs.After.{after_once}
-use Rattle.sheet.specs.declared.Header.{Header}
 use Rattle.sheet.specs.Entries.{ReadsHeader}
 use Rattle.sheet.proofs.Sheets.{header_once}
 use Rattle.printed.proofs.LineOnce.{line_at_once}
-use Rattle.printed.specs.declared.Ran.{Ran}
 use Rattle.printed.specs.Text.{sheet_line}
-use Rattle.printed.specs.Runs.{Lines, Lines.start, Lines.more, Prints, run_checks, ran_says, RunsBy, Runs}
+use Rattle.printed.specs.Runs.{Lines, Lines.start, Lines.more, Prints, run_checks, ran_says, RunsBy, Runs, Ran}
 
 -- a sheet has one text
 pub lines_once : (sheet : List ℕ) (n k : ℕ) (x y : List ℕ) → Lines sheet n k x → Lines sheet n k y → x ≡ y
@@ -25,18 +25,18 @@ lines_once sheet n k x y (more {k = j} {text = text₁} {next = next₁} {b = b�
     let e = after_once sheet n j b₁ b₂ made again in
     ap₂ (λ (s t : List ℕ). s ++ t) (lines_once sheet n j text₁ text₂ v w) (line_at_once n b₂ _ next₁ next₂ (rw e at p) q)
 
-pub prints_once : (sheet : List ℕ) (h : Header) (x y : List ℕ) → Prints sheet h x → Prints sheet h y → x ≡ y
-prints_once sheet (Header.Sheet n count version) x y p q =
-    p.2 ∙ ap (λ (l : List ℕ). sheet_line n count ++ l) (lines_once sheet n count p.0 q.0 p.1 q.1) ∙ sym q.2
-prints_once sheet (Header.Refused why) x y p q = p ∙ sym q
+pub prints_once : (sheet : List ℕ) (h : HeaderRead) (x y : List ℕ) → Prints sheet h x → Prints sheet h y → x ≡ y
+prints_once sheet (Ok head) x y p q =
+    p.2 ∙ ap (λ (l : List ℕ). sheet_line head.n head.count ++ l) (lines_once sheet head.n head.count p.0 q.0 p.1 q.1) ∙ sym q.2
+prints_once sheet (Err why) x y p q = p ∙ sym q
 
 ran_tells : (a b : Ran) → ran_says a ≡ ran_says b → a ≡ b
-ran_tells (Ran.Printed i) (Ran.Printed j) e = let z : i ≡ j = cc in ap Ran.Printed z
-ran_tells (Ran.Printed i) (Ran.Refused r) e = absurd (zero_one cc)
-ran_tells (Ran.Refused q) (Ran.Printed j) e = absurd (zero_one cc)
-ran_tells (Ran.Refused q) (Ran.Refused r) e = let z : number_of q ≡ number_of r = cc in ap Ran.Refused (number_tells q r z)
+ran_tells (Ok i) (Ok j) e = let z : i ≡ j = cc in ap Ok z
+ran_tells (Ok i) (Err r) e = absurd (zero_one cc)
+ran_tells (Err q) (Ok j) e = absurd (zero_one cc)
+ran_tells (Err q) (Err r) e = let z : number_of q ≡ number_of r = cc in ap Err (number_tells q r z)
 
-runs_by_once : (sheet : List ℕ) (h : Header) (before : List ℕ) (q r : Ran) (x y : List ℕ)
+runs_by_once : (sheet : List ℕ) (h : HeaderRead) (before : List ℕ) (q r : Ran) (x y : List ℕ)
     → RunsBy sheet h before q x → RunsBy sheet h before r y → (q ≡ r) × (x ≡ y)
 runs_by_once sheet h before q r x y v w = go (given_or_passed (run_checks h before))
   where
@@ -54,7 +54,7 @@ runs_by_once sheet h before q r x y v w = go (given_or_passed (run_checks h befo
         )
 
 -- a run is by the header that its sheet has
-pub run_by_header : (sheet : List ℕ) (h : Header) (before : List ℕ) (r : Ran) (after : List ℕ) → ReadsHeader sheet h → Runs sheet before r after → RunsBy sheet h before r after
+pub run_by_header : (sheet : List ℕ) (h : HeaderRead) (before : List ℕ) (r : Ran) (after : List ℕ) → ReadsHeader sheet h → Runs sheet before r after → RunsBy sheet h before r after
 run_by_header sheet h before r after reads w = rw (header_once sheet w.header h w.reads reads) at w.runs
 
 -- a run has one answer, and leaves the lent memory in one way

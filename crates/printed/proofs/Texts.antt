@@ -1,4 +1,6 @@
 -- What a run's answer says, when 13 is given, how much room is asked for, and what stands where in a text.
+use Rattle.sheet.specs.Format.{HeaderRead, headed}
+use Rattle.std.specs.Prelude.{Ok, Err}
 use mathlib.Core.Path.{◌≡◌, refl, sym, ap, subst, ◌∙◌}
 use mathlib.Core.Logic.{◌↔◌}
 use mathlib.Core.List.{List, [], ◌∷◌, ◌++◌, append_assoc, append-nil}
@@ -16,20 +18,18 @@ use Rattle.table.proofs.Checks.{not_given_and_passed, zero_one}
 use Rattle.table.proofs.Numbers.{above_zero}
 use Rattle.book.specs.declared.Book.{Book}
 use Rattle.changes.specs.After.{After}
-use Rattle.sheet.specs.declared.Header.{Header}
 use Rattle.sheet.specs.Entries.{part_of}
 use Rattle.printed.specs.Words.{ascii, decimal}
 use Rattle.printed.specs.Text.{sheet_line}
 use Rattle.printed.specs.Lines.{LineAt}
-use Rattle.printed.specs.declared.Ran.{Ran}
-use Rattle.printed.specs.Runs.{Lines, Lines.start, Lines.more, Prints, room, run_checks, ran_says, Printed}
+use Rattle.printed.specs.Runs.{Lines, Lines.start, Lines.more, Prints, room, run_checks, ran_says, Printed, Ran}
 
 -- a run has one check, 13,
-pub run_order : (header : Header) (memory : List ℕ) → numbers (run_checks header memory) ≡ 13 ∷ []
+pub run_order : (header : HeaderRead) (memory : List ℕ) → numbers (run_checks header memory) ≡ 13 ∷ []
 run_order header memory = refl
 
--- "lent memory too short": shorter than the room that the run asks for
-pub thirteen_exactly : (header : Header) (memory : List ℕ) → Given 13 (run_checks header memory) ↔ (length memory < room header)
+-- "the lent memory is not long enough": shorter than the room that the run asks for
+pub thirteen_exactly : (header : HeaderRead) (memory : List ℕ) → Given 13 (run_checks header memory) ↔ (length memory < room header)
 thirteen_exactly header memory = (short, λ h. here (lt-ltb (length memory) (room header) h) refl)
   where
     short : Given 13 (run_checks header memory) → length memory < room header
@@ -40,20 +40,20 @@ thirteen_exactly header memory = (short, λ h. here (lt-ltb (length memory) (roo
         go (no h) = absurd (not_given_and_passed 13 (run_checks header memory) g (passes (le-ltb (length memory) (room header) (omega arith)) none))
 
 -- 24 bytes, and 48 more for each action
-pub room_grows : (n count version : ℕ) (why : Refusal) → (room (Header.Refused why) ≡ 24) × (room (Header.Sheet n 0 version) ≡ 24) × (room (Header.Sheet n (suc count) version) ≡ room (Header.Sheet n count version) + 48)
+pub room_grows : (n count version : ℕ) (why : Refusal) → (room (Err why) ≡ 24) × (room (headed n 0 version) ≡ 24) × (room (headed n (suc count) version) ≡ room (headed n count version) + 48)
 room_grows n count version why = (refl, refl, omega arith)
 
 -- no refusal has number 0, and what is accepted is a length
 pub ran_numbered : (a : Ran) → Numbered (ran_says a)
-ran_numbered (Ran.Printed bytes) = tt
-ran_numbered (Ran.Refused why) = above_zero why
+ran_numbered (Ok bytes) = tt
+ran_numbered (Err why) = above_zero why
 
-pub printed_exactly : (a : Ran) (bytes : ℕ) → (ran_says a ≡ accepted (bytes ∷ [])) ↔ (a ≡ Ran.Printed bytes)
-printed_exactly (Ran.Printed k) bytes = ((λ e. let same : k ≡ bytes = cc in ap Ran.Printed same), (λ e. ap ran_says e))
-printed_exactly (Ran.Refused why) bytes = ((λ e. absurd (zero_one cc)), (λ e. absurd (zero_one cc)))
+pub printed_exactly : (a : Ran) (bytes : ℕ) → (ran_says a ≡ accepted (bytes ∷ [])) ↔ (a ≡ Ok bytes)
+printed_exactly (Ok k) bytes = ((λ e. let same : k ≡ bytes = cc in ap Ok same), (λ e. ap ran_says e))
+printed_exactly (Err why) bytes = ((λ e. absurd (zero_one cc)), (λ e. absurd (zero_one cc)))
 
 -- the text lies at the front of the memory, so many bytes as the answer says, and the rest is as before
-pub front_and_rest : (sheet : List ℕ) (h : Header) (before : List ℕ) (bytes : ℕ) (after : List ℕ) → Printed sheet h before (Ran.Printed bytes) after
+pub front_and_rest : (sheet : List ℕ) (h : HeaderRead) (before : List ℕ) (bytes : ℕ) (after : List ℕ) → Printed sheet h before (Ok bytes) after
     → (text : List ℕ) × Prints sheet h text × (take bytes after ≡ text) × (drop bytes after ≡ drop bytes before)
 front_and_rest sheet h before bytes after w =
     let text = w.0 in
@@ -62,12 +62,12 @@ front_and_rest sheet h before bytes after w =
     (text, w.1, rw (same, w.3) (take-append_seam text (drop (length text) before)), rw (same, w.3) (drop-append_seam text (drop (length text) before)))
 
 -- "SHEET REFUSED k"
-pub refused_text : (sheet : List ℕ) (why : Refusal) (text : List ℕ) → Prints sheet (Header.Refused why) text
+pub refused_text : (sheet : List ℕ) (why : Refusal) (text : List ℕ) → Prints sheet (Err why) text
     → text ≡ ascii "SHEET REFUSED " ++ decimal (number_of why) ++ ascii "\n"
 refused_text sheet why text p = p
 
 -- "SHEET n count", and the lines of as many actions
-pub first_line : (sheet : List ℕ) (n count version : ℕ) (text : List ℕ) → Prints sheet (Header.Sheet n count version) text
+pub first_line : (sheet : List ℕ) (n count version : ℕ) (text : List ℕ) → Prints sheet (headed n count version) text
     → (lines : List ℕ) × Lines sheet n count lines × (text ≡ ascii "SHEET " ++ (decimal n ++ (ascii " " ++ (decimal count ++ ascii "\n"))) ++ lines)
 first_line sheet n count version text p = p
 
@@ -82,7 +82,7 @@ pub record LineIn (sheet : List ℕ) (n : ℕ) (text : List ℕ) (j : ℕ) : Typ
   pub tells : LineAt n before (part_of sheet j) line
   pub stands : text ≡ first ++ (line ++ rest)
 
--- "a line per action"
+-- "For every action comes one line more"
 pub action_line_at : {sheet : List ℕ} {n : ℕ} {text : List ℕ} {k : ℕ} (j : ℕ) → j < k → Lines sheet n k text → LineIn sheet n text j
 action_line_at j h start = absurd (omega arith)
 action_line_at {sheet = sheet} {n = n} j h (more {k = i} {text = text} {next = next} {b = b} v made p) = go (dec_lt j i) (λ less. action_line_at j less v)
@@ -109,6 +109,6 @@ action_line_at {sheet = sheet} {n = n} j h (more {k = i} {text = text} {next = n
         }
 
 -- and so in all that is printed, after the first line
-pub every_action_printed : (sheet : List ℕ) (n count version : ℕ) (text : List ℕ) (j : ℕ) → j < count → Prints sheet (Header.Sheet n count version) text
+pub every_action_printed : (sheet : List ℕ) (n count version : ℕ) (text : List ℕ) (j : ℕ) → j < count → Prints sheet (headed n count version) text
     → (lines : List ℕ) × LineIn sheet n lines j × (text ≡ sheet_line n count ++ lines)
 every_action_printed sheet n count version text j h p = (p.0, action_line_at j h p.1, p.2)

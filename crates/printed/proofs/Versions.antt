@@ -1,5 +1,7 @@
--- Document 02, §5: "Version 1 sheets still read, every notice broken and every route over all". A sheet of version 1, and the sheet of version 2 with class 0
--- everywhere, print the same lines and leave the same book.
+-- docs/RULES.md, 'Classes': "Sheets of version 1 are still run. Each notice of theirs is broken, and each route counts all". A sheet of version 1, and the
+-- sheet of version 2 with class 0 everywhere, print the same lines and leave the same book.
+use Rattle.std.specs.Prelude.{Ok}
+use Rattle.actions.specs.Format.{ActionRead}
 use mathlib.Core.Path.{◌≡◌, refl, sym, ap, ap₂, subst, ◌∙◌}
 use mathlib.Core.Bool.{false}
 use mathlib.Core.Logic.{inr}
@@ -15,8 +17,7 @@ use Rattle.actions.specs.declared.Action.{Action}
 use Rattle.actions.specs.Entries.{ReadsAction}
 use Rattle.actions.proofs.Actions.{class_zero_alike}
 use Rattle.actions.proofs.Exactly.{ten_bytes_broken, ten_bytes_over_all}
-use Rattle.sheet.specs.declared.Header.{Header}
-use Rattle.sheet.specs.Format.{header_bytes, version_in, size_in, count_in, each_in}
+use Rattle.sheet.specs.Format.{header_bytes, version_in, size_in, count_in, each_in, headed}
 use Rattle.sheet.specs.Entries.{wrong_mark, header_checks, ReadsHeader, part_of}
 use Rattle.sheet.proofs.Promises.{header_accepts, header_fields, header_passed, there_yes, part_there}
 use Rattle.sheet.proofs.Meanings.{length_exactly}
@@ -30,26 +31,26 @@ use Rattle.printed.specs.Runs.{Lines, Lines.start, Lines.more as next, Prints}
 use Rattle.printed.proofs.RunOnce.{prints_once}
 
 -- an action of a sheet of version 1 has ten bytes,
-ten_bytes : {sheet : List ℕ} {n count : ℕ} → ReadsHeader sheet (Header.Sheet n count 1) → (k : ℕ) → k < count → length (part_of sheet k) ≡ 10
+ten_bytes : {sheet : List ℕ} {n count : ℕ} → ReadsHeader sheet (headed n count 1) → (k : ℕ) → k < count → length (part_of sheet k) ≡ 10
 ten_bytes {sheet} reads k h = part_is_each sheet k (there_yes reads refl h) ∙ ap action_length (sym (header_fields reads).2)
 
 -- so every notice in it is broken, and every route over all
-module _ {sheet : List ℕ} {n count : ℕ} (reads : ReadsHeader sheet (Header.Sheet n count 1)) (k : ℕ) (there : k < count) where
-  pub version_1_broken : (x : Notice) → ReadsAction (part_of sheet k) (Action.File x) → x.class ≡ 0
+module _ {sheet : List ℕ} {n count : ℕ} (reads : ReadsHeader sheet (headed n count 1)) (k : ℕ) (there : k < count) where
+  pub version_1_broken : (x : Notice) → ReadsAction (part_of sheet k) (Ok (Action.File x)) → x.class ≡ 0
   version_1_broken x r = ten_bytes_broken (part_of sheet k) (ten_bytes reads k there) x r
 
-  pub version_1_over_all : (s d choice : ℕ) → ReadsAction (part_of sheet k) (Action.Route s d choice) → choice ≡ 0
+  pub version_1_over_all : (s d choice : ℕ) → ReadsAction (part_of sheet k) (Ok (Action.Route s d choice)) → choice ≡ 0
   version_1_over_all s d choice r = ten_bytes_over_all (part_of sheet k) (ten_bytes reads k there) s d choice r
 
 -- the same actions in both versions: "class 0 everywhere"
 pub record ClassZero (one two : List ℕ) (n count : ℕ) : Type 0 where
-  pub ten : ReadsHeader one (Header.Sheet n count 1)
-  pub eleven : ReadsHeader two (Header.Sheet n count 2)
+  pub ten : ReadsHeader one (headed n count 1)
+  pub eleven : ReadsHeader two (headed n count 2)
   pub parts : (k : ℕ) → k < count → part_of two k ≡ part_of one k ++ 0 ∷ []
 
 module _ (one two : List ℕ) (n count : ℕ) (same : ClassZero one two n count) where
   -- each action reads as the same
-  action_alike : (k : ℕ) (a : Action) → k < count → ReadsAction (part_of one k) a → ReadsAction (part_of two k) a
+  action_alike : (k : ℕ) (a : ActionRead) → k < count → ReadsAction (part_of one k) a → ReadsAction (part_of two k) a
   action_alike k a h r =
       subst (λ (part : List ℕ). ReadsAction part a) (sym (same.parts k h)) (class_zero_alike (part_of one k) a (ten_bytes same.ten k h) r)
 
@@ -69,11 +70,11 @@ module _ (one two : List ℕ) (n count : ℕ) (same : ClassZero one two n count)
   lines_alike h (next {k = j} {next = line} {b = b} before made l) = next (lines_alike (omega arith) before) (after_alike (omega arith) made) (line_alike j b line (omega arith) l)
 
   -- and so is all that is printed, which neither version nor class shows in
-  pub versions_print_alike : (text : List ℕ) → Prints one (Header.Sheet n count 1) text → Prints two (Header.Sheet n count 2) text
+  pub versions_print_alike : (text : List ℕ) → Prints one (headed n count 1) text → Prints two (headed n count 2) text
   versions_print_alike text p = (p.0, lines_alike (omega arith) p.1, p.2)
 
-  pub no_other_text : (x y : List ℕ) → Prints one (Header.Sheet n count 1) x → Prints two (Header.Sheet n count 2) y → x ≡ y
-  no_other_text x y p q = prints_once two (Header.Sheet n count 2) x y (versions_print_alike x p) q
+  pub no_other_text : (x y : List ℕ) → Prints one (headed n count 1) x → Prints two (headed n count 2) y → x ≡ y
+  no_other_text x y p q = prints_once two (headed n count 2) x y (versions_print_alike x p) q
 
 -- the sheet of version 2 that a sheet of version 1 becomes: a byte 0 after each action
 unfoldable pub classed : ℕ → List ℕ → List ℕ
@@ -117,7 +118,7 @@ part_classed (suc m) rest j e h = go j h (λ i. part_classed m (drop 10 rest) i)
         ∙ ap (λ (s : List ℕ). take 10 s ++ 0 ∷ []) (drop-drop (10 * i) 10 rest ∙ ap (λ (p : ℕ). drop p rest) {x = 10 + 10 * i} {y = 10 * suc i} (omega arith))
 
 -- every sheet of version 1 has one, so it prints and leaves what that one does
-module _ (one : List ℕ) (n count : ℕ) (reads : ReadsHeader one (Header.Sheet n count 1)) where
+module _ (one : List ℕ) (n count : ℕ) (reads : ReadsHeader one (headed n count 1)) where
   fields : (n ≡ size_in one) × (count ≡ count_in one) × (1 ≡ version_in one)
   fields = header_fields reads
 
@@ -136,14 +137,14 @@ module _ (one : List ℕ) (n count : ℕ) (reads : ReadsHeader one (Header.Sheet
       let here : length (in_version2 one) ≡ 8 + 11 * count_in one = omega arith in
       here ∙ ap₂ (λ (v k : ℕ). 8 + action_length v * k) (sym header.0) (sym header.2)
 
-  accepted : ReadsHeader (in_version2 one) (Header.Sheet n count 2)
+  accepted : ReadsHeader (in_version2 one) (headed n count 2)
   accepted =
       let few = ((length_exactly one).0 (passed_nth (header_checks one) 2 (header_passed reads))).0 in
       let p : Passed (header_checks (in_version2 one)) =
       passes header.3
       (passes (passed_nth (header_checks one) 1 (header_passed reads))
       (passes ((length_exactly (in_version2 one)).1 (subst (λ (k : ℕ). k ≤ 4096) (sym header.2) few, two_long)) nothing)) in
-      subst (λ (m : ℕ). ReadsHeader (in_version2 one) (Header.Sheet m count 2)) (sym fields.0) (header_accepts p (fields.1 ∙ sym header.2) (sym header.0))
+      subst (λ (m : ℕ). ReadsHeader (in_version2 one) (headed m count 2)) (sym fields.0) (header_accepts p (fields.1 ∙ sym header.2) (sym header.0))
 
   part : (k : ℕ) → k < count → part_of (in_version2 one) k ≡ part_of one k ++ 0 ∷ []
   part k h =

@@ -1,4 +1,4 @@
--- Words, numbers and lines as 01 spells them: one blank between words, and LF at the end and nowhere else.
+-- Words, numbers and lines as docs/RULES.md spells them: one blank between words, and LF at the end and nowhere else.
 use mathlib.Core.Path.{◌≡◌, refl, sym, ap, ◌∙◌}
 use mathlib.Core.Bool.{Bool, true, ◌&&◌}
 use mathlib.Core.List.{List, [], ◌∷◌, ◌++◌, append_assoc}
@@ -96,7 +96,7 @@ letters_of_words (w ∷ ws) e =
 pub ten_are_words : Words (SHEET ∷ FILE ∷ WITHDRAW ∷ ROUTE ∷ ACTION ∷ OK ∷ REFUSED ∷ TAG ∷ NONE ∷ BY ∷ [])
 ten_are_words = letters_of_words (SHEET ∷ FILE ∷ WITHDRAW ∷ ROUTE ∷ ACTION ∷ OK ∷ REFUSED ∷ TAG ∷ NONE ∷ BY ∷ []) refl
 
--- one line: "LF at each end", and nowhere else
+-- one line: "a line feed ends each of them", and nowhere else
 pub record OneLine (text : List ℕ) : Type 0 where
   pub before : List ℕ
   pub plain : Within 32 126 before

@@ -1,4 +1,4 @@
--- Document 01, 'The sheet and what is printed': words and numbers as bytes, in ASCII, and what ends a line.
+-- docs/RULES.md, 'What is printed': words and numbers as bytes, in ASCII, and what ends a line.
 use Rattle.std.specs.Prelude.{cond, List, [], ◌∷◌, ◌++◌, ℕ, zero, suc, ◌+◌, ◌*◌, ◌/◌, ◌%◌}
 use Prim.Native.Char.{code}
 use Prim.Native.String.{String, [] as nothing, ◌∷◌ as ◌then◌}
@@ -7,7 +7,7 @@ use Rattle.table.specs.Checks.{◌below◌}
 use Rattle.table.specs.declared.Refusal.{Refusal}
 use Rattle.fabric.specs.Labels.{bit}
 
--- a text in quotes, byte by byte. The definitions below give bytes as numbers; the theorems that pin them quote 01's text by it.
+-- a text in quotes, byte by byte. The definitions below give bytes as numbers; the theorems that pin them quote docs/RULES.md by it.
 abbrev pub ascii : String → List ℕ
 ascii nothing = []
 ascii (letter then letters) = code letter ∷ ascii letters
@@ -28,7 +28,7 @@ unfoldable pub bits_from : ℕ → ℕ → ℕ → List ℕ
 bits_from i zero x = []
 bits_from i (suc left) x = (48 + bit i x) ∷ bits_from (suc i) left x
 
--- "`TAG` with bits 0 to 2n-1 in that order": `tag_bits_at` says that there are 2n, and which stands where
+-- "`TAG` and the 2n bits of the tag, bit 0 first": `tag_bits_at` says that there are 2n, and which stands where
 abbrev pub tag_bits : ℕ → ℕ → List ℕ
 tag_bits n tag = bits_from 0 (2 * n) tag
 
@@ -63,8 +63,8 @@ NONE = 78 ∷ 79 ∷ 78 ∷ 69 ∷ []
 abbrev pub BY : List ℕ
 BY = 66 ∷ 89 ∷ []
 
--- the rest of a line after its first word: a blank before each word, and "LF at each end". `line_of_one` and `line_of_more` say what
--- a line is, and `line_feed_last` that it has no other LF.
+-- the rest of a line after its first word: a blank before each word, and "a line feed ends each of them". `line_of_one` and
+-- `line_of_more` say what a line is, and `line_feed_last` that it has no other LF.
 abbrev pub ending : List (List ℕ) → List ℕ
 ending [] = 10 ∷ []
 ending (word ∷ words) = 32 ∷ word ++ ending words
@@ -72,6 +72,6 @@ ending (word ∷ words) = 32 ∷ word ++ ending words
 abbrev pub line : List ℕ → List (List ℕ) → List ℕ
 line word words = word ++ ending words
 
--- "`REFUSED` and the table number": `refusal_spelled`
+-- "`REFUSED` and the number of the refusal": `refusal_spelled`
 abbrev pub refusal : Refusal → List (List ℕ)
 refusal why = REFUSED ∷ decimal (number_of why) ∷ []

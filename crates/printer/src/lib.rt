@@ -1,57 +1,55 @@
-// Document 01, 'The sheet and what is printed': running a sheet, from its bytes to the bytes printed.
+// docs/RULES.md, 'What is printed': running a sheet, from its bytes to the bytes printed.
 #![tactic(auto)]
 
-ghost use Rattle.std.specs.Prelude.{ℕ, ◌+◌, ◌*◌, ◌≤◌, List, length};
+ghost use Rattle.std.specs.Prelude.{ℕ, ◌+◌, ◌*◌, ◌≤◌, List, length, Ok, Err};
 ghost use Rattle.printed.specs.Text.{sheet_line};
 ghost use Rattle.printed.specs.Runs.{first_line_room, action_room, RunsBy, Runs};
 ghost use Rattle.words.specs.Wrote.{Wrote};
-ghost use Rattle.printer.specs.Written.{LinesWritten};
+ghost use Rattle.printer.specs.Written.{LinesWritten, LineWritten};
 
 use actions::Action;
-use book::Book;
+use book::SoundBook;
+use fabric::Fabric;
 use lines::{fault_line, file_line, route_line, withdraw_line};
-use printed::{ACTION_ROOM, FIRST_LINE_ROOM, Ran};
+use printed::{ACTION_ROOM, FIRST_LINE_ROOM};
 use sheet::Header;
 use table::Refusal;
 use words::{named_number, number_told, refusal_told, word};
 
 // Prints what running a sheet prints, at the front of the memory.
-pub fn run(sheet: &[u8], out: &mut [u8]) -> Ran
+pub fn run(sheet: &[u8], out: &mut [u8]) -> Result<usize, Refusal>
     ensures { Runs sheet.now out.old result out.new }
 {
     match sheet_reader::read_header(sheet) {
-        Header::Refused(why) => refused_sheet(why, out),
-        Header::Sheet {
-            n,
-            count,
-            version: _,
-        } => whole_sheet(sheet, n, count, out),
+        Ok(header) => whole_sheet(sheet, header, out),
+        Err(why) => refused_sheet(why, out),
     }
 }
 
-// "or only `SHEET REFUSED k`"
-fn refused_sheet(why: Refusal, out: &mut [u8]) -> Ran
-    ensures { (sheet : List ℕ) → RunsBy sheet (Header.Refused why) out.old result out.new }
+// "`SHEET REFUSED k` and nothing after it"
+fn refused_sheet(why: Refusal, out: &mut [u8]) -> Result<usize, Refusal>
+    ensures { (sheet : List ℕ) → RunsBy sheet (Err why) out.old result out.new }
 {
     if out.len() < FIRST_LINE_ROOM {
-        return Ran::Refused(Refusal::Room);
+        return Err(Refusal::Room);
     }
     let mid = word(out, 0, b"SHEET");
-    Ran::Printed(refusal_told(out, mid, why))
+    Ok(refusal_told(out, mid, why))
 }
 
-fn whole_sheet(sheet: &[u8], n: u8, count: u16, out: &mut [u8]) -> Ran
-    requires { (1 ≤ n) × (n ≤ 12) }
-    ensures { (version : ℕ) → RunsBy sheet.now (Header.Sheet n count version) out.old result out.new }
+// Here `Fabric` is made, of a header that was read.
+fn whole_sheet(sheet: &[u8], header: Header, out: &mut [u8]) -> Result<usize, Refusal>
+    requires { (1 ≤ header.n) × (header.n ≤ 12) }
+    ensures { RunsBy sheet.now (Ok header) out.old result out.new }
 {
-    if out.len() < FIRST_LINE_ROOM + ACTION_ROOM * count as usize {
-        return Ran::Refused(Refusal::Room);
+    if out.len() < FIRST_LINE_ROOM + ACTION_ROOM * header.count as usize {
+        return Err(Refusal::Room);
     }
-    let at = sheet_line(n, count, out);
-    Ran::Printed(lines(sheet, n, count, out, at))
+    let at = sheet_line(header.n, header.count, out);
+    Ok(lines(sheet, Fabric { n: header.n }, header.count, out, at))
 }
 
-// "First line: `SHEET n count`"
+// "The first line is `SHEET n count`"
 fn sheet_line(n: u8, count: u16, out: &mut [u8]) -> usize
     requires { first_line_room ≤ length out.old }
     ensures { (Wrote out.old 0 (sheet_line n count) out.new result) × (result ≤ first_line_room) }
@@ -60,42 +58,69 @@ fn sheet_line(n: u8, count: u16, out: &mut [u8]) -> usize
     number_told(out, between, b" ", count)
 }
 
-// "Then a line per action", starting from an empty book, which is sound from its opening on: 16 is not tested.
-fn lines(sheet: &[u8], n: u8, count: u16, out: &mut [u8], at: usize) -> usize
-    requires { (1 ≤ n) × (n ≤ 12) × (at + action_room * count ≤ length out.old) }
-    ensures { LinesWritten sheet.now n count out.old at out.new result }
+// "For every action comes one line more", starting from an empty book.
+fn lines(sheet: &[u8], fabric: Fabric, count: u16, out: &mut [u8], at: usize) -> usize
+    requires { (1 ≤ fabric.n) × (at + action_room * count ≤ length out.old) }
+    ensures { LinesWritten sheet.now fabric.n count out.old at out.new result }
 {
-    let mut book = Book::open(n).book;
+    let mut book = SoundBook::open(fabric);
     let mut next = at;
-    let mut k: usize = 0;
-    while k < count as usize {
-        let part = sheet_reader::action_part(sheet, k);
-        match action_bytes::read_action(part) {
-            Action::File(notice) => {
-                let kept = book.filed(notice);
-                let answer = kept.answer;
-                next = file_line(notice.number, answer, out, next);
-                book = kept.book;
-            }
-            Action::Withdraw(number) => {
-                let kept = book.withdrawn(number);
-                let answer = kept.answer;
-                next = withdraw_line(number, answer, out, next);
-                book = kept.book;
-            }
-            Action::Route {
-                source,
-                destination,
-                choice,
-            } => {
-                let found = router::routed(book, source, destination, choice);
-                next = route_line(n, source, destination, found, out, next);
-            }
-            Action::Refused(why) => {
-                next = fault_line(why, out, next);
-            }
-        }
-        k += 1;
+    for k in 0..count {
+        let part = sheet_reader::action_part(sheet, k as usize);
+        next = line(
+            fabric,
+            &mut book,
+            action_bytes::read_action(part),
+            out,
+            next,
+        );
     }
     next
+}
+
+// The line of one action, by what its entry answers over the book, which it may change; or of a layout fault.
+fn line(
+    fabric: Fabric,
+    book: &mut SoundBook,
+    action: Result<Action, Refusal>,
+    out: &mut [u8],
+    at: usize,
+) -> usize
+    requires { at + action_room ≤ length out.old }
+    ensures { LineWritten fabric.n book.old.book action out.old at book.new.book out.new result }
+{
+    match action {
+        Ok(action) => entry_line(fabric, book, action, out, at),
+        Err(why) => fault_line(why, out, at),
+    }
+}
+
+fn entry_line(
+    fabric: Fabric,
+    book: &mut SoundBook,
+    action: Action,
+    out: &mut [u8],
+    at: usize,
+) -> usize
+    requires { at + action_room ≤ length out.old }
+    ensures { LineWritten fabric.n book.old.book (Ok action) out.old at book.new.book out.new result }
+{
+    match action {
+        Action::File(notice) => {
+            let answer = book.file(notice);
+            file_line(notice.number, answer, out, at)
+        }
+        Action::Withdraw(number) => {
+            let answer = book.withdraw(number);
+            withdraw_line(number, answer, out, at)
+        }
+        Action::Route {
+            source,
+            destination,
+            choice,
+        } => {
+            let answer = router::routed(book, source, destination, choice);
+            route_line(fabric, source, destination, answer, out, at)
+        }
+    }
 }

@@ -1,31 +1,16 @@
-// Document 01, 'The sheet and what is printed': from what was read on standard input to what is written on standard output.
+// docs/RULES.md, 'What is printed': from what was read on standard input to what is written on standard output.
 #![tactic(auto)]
 
 ghost use Rattle.std.specs.Prelude.{◌≤◌, length};
 ghost use Rattle.input.specs.Rooms.{input_room, text_room};
-ghost use Rattle.input.specs.Answers.{Within, AnswersText, WritesText};
+ghost use Rattle.input.specs.Answers.{Within, AnswersText};
 
-use input::{Input, Output};
-use printed::Ran;
-
-// Runs the input. The memory holds all of it, or as much of it as there is room for.
-pub fn run(memory: &[u8], input: Input, lines: &mut [u8]) -> Output
-    requires { (input_room ≤ length memory.now) × (text_room ≤ length lines.old) × Within (length memory.now) input }
-    ensures { AnswersText memory.now input lines.old result lines.new }
-{
-    match input {
-        Input::Bytes(bytes) => run_sheet(&memory[..bytes], lines),
-        Input::Failed => Output::Unread,
-    }
-}
-
+// Runs the input, of which so many bytes were read, or none where a read failed. The memory holds all of it, or as much of it as there is room for.
 // The lines have room for the text of every sheet, so the run is not refused.
-fn run_sheet(sheet: &[u8], lines: &mut [u8]) -> Output
-    requires { text_room ≤ length lines.old }
-    ensures { WritesText sheet.now lines.old result lines.new }
+pub fn run(memory: &[u8], read: Option<usize>, lines: &mut [u8]) -> Option<usize>
+    requires { (input_room ≤ length memory.now) × (text_room ≤ length lines.old) × Within (length memory.now) read }
+    ensures { AnswersText memory.now read lines.old result lines.new }
 {
-    match printer::run(sheet, lines) {
-        Ran::Printed(bytes) => Output::Text(bytes),
-        Ran::Refused(_) => Output::Unread,
-    }
+    let bytes = read?;
+    printer::run(&memory[..bytes], lines).ok()
 }

@@ -1,12 +1,12 @@
-// Runs routes and walks on document 01's examples and on bad input, through open, file, route and walk, and prints a line
-// for each call.
+// Runs routes and walks on the examples of docs/RULES.md and on bad input, through open, file, route and walk, and prints
+// a line for each call.
 #![tactic(auto)]
 
 use book::Book;
-use notices::{Notice, Target};
-use routes::Found;
-use show::{number, refused, word};
-use walks::Ended;
+use notices::Notice;
+use routes::NoRoute;
+use show::{links, switch};
+use walks::NotClear;
 
 fn main(rt: HostRuntime) {
     one_to_six(&rt);
@@ -22,32 +22,12 @@ fn main(rt: HostRuntime) {
     bad_choices(&rt);
 }
 
-// A notice for links of one switch.
-fn links(number: u16, stage: u8, switch: u16, set: u8) -> Notice {
-    Notice {
-        number,
-        target: Target::Links { stage, switch, set },
-        class: 0,
-    }
-}
-
-// A notice for a switch.
-fn switch(number: u16, column: u8, switch: u16) -> Notice {
-    Notice {
-        number,
-        target: Target::Switch { column, switch },
-        class: 0,
-    }
-}
-
 fn empty(n: u8) -> Book {
-    let kept = Book::open(n);
-    kept.book
+    Book::open(n).book
 }
 
 fn with(book: Book, notice: Notice) -> Book {
-    let kept = book.file(notice);
-    kept.book
+    book.file(notice).book
 }
 
 // Examples 1 to 6: n = 3, from 1 to 0.
@@ -94,12 +74,9 @@ fn damaged(rt: &HostRuntime) {
     let none = empty(13);
     route(rt, 0, none, 65535, 65535);
     walk(rt, none, 65535, 4294967295);
-    let book = empty(3);
-    let notices = book.notices;
     let full = Book {
-        n: 3,
         count: 49,
-        notices,
+        ..empty(3)
     };
     route(rt, 0, full, 65535, 0);
     walk(rt, full, 65535, 0);
@@ -108,13 +85,12 @@ fn damaged(rt: &HostRuntime) {
 // The first stopped link of a tag's path, and a path that is clear.
 fn tags_walked(rt: &HostRuntime) {
     let book = with(empty(3), links(1, 1, 2, 4));
-    walk(rt, book, 1, 0);
-    walk(rt, book, 1, 8);
-    walk(rt, book, 1, 24);
-    walk(rt, book, 1, 40);
+    for tag in [0, 8, 24, 40] {
+        walk(rt, book, 1, tag);
+    }
 }
 
-// Document 02, §2: both arms of a fork count, other stages and other switches do not, and a walk names the notice that it meets.
+// docs/RULES.md, 'Routes': both arms of a fork count, other stages and other switches do not, and a walk names the notice that it meets.
 fn both_arms(rt: &HostRuntime) {
     let plus = with(empty(3), links(9, 0, 1, 2));
     let both = with(plus, links(5, 0, 1, 4));
@@ -141,7 +117,8 @@ fn last_stage(rt: &HostRuntime) {
     route(rt, 0, with(plus, links(65534, 0, 0, 4)), 0, 1);
 }
 
-// Document 02, §3: no route leaves a dead card of column 0, whatever the destination, and no walk does; its neighbour's do, and routes to the same label.
+// docs/RULES.md, 'Notices': no route leaves a dead card of column 0, whatever the destination, and no walk does; its neighbour's do, and routes to the same
+// label.
 fn dead_card(rt: &HostRuntime) {
     let dead = with(empty(3), switch(6, 0, 5));
     route(rt, 0, dead, 5, 5);
@@ -165,15 +142,10 @@ fn label_of_a_dead_card(rt: &HostRuntime) {
 
 // The same links, only reserved.
 fn busy(notice: Notice) -> Notice {
-    let target = notice.target;
-    Notice {
-        number: notice.number,
-        target,
-        class: 1,
-    }
+    Notice { class: 1, ..notice }
 }
 
-// Document 02, §5: over all notices and over broken ones only. A walk counts all.
+// docs/RULES.md, 'Classes': over all notices and over broken ones only. A walk counts all.
 fn choices(rt: &HostRuntime) {
     let reserved = with(empty(3), busy(links(1, 0, 1, 4)));
     both_choices(rt, reserved, 1, 0);
@@ -197,8 +169,9 @@ fn bad_choices(rt: &HostRuntime) {
 }
 
 fn both_choices(rt: &HostRuntime, book: Book, source: u16, destination: u16) {
-    chosen(rt, 0, book, source, destination, 0);
-    chosen(rt, 0, book, source, destination, 1);
+    for choice in [0, 1] {
+        chosen(rt, 0, book, source, destination, choice);
+    }
 }
 
 fn route(rt: &HostRuntime, example: u64, book: Book, source: u16, destination: u16) {
@@ -206,37 +179,20 @@ fn route(rt: &HostRuntime, example: u64, book: Book, source: u16, destination: u
 }
 
 fn chosen(rt: &HostRuntime, example: u64, book: Book, source: u16, destination: u16, choice: u8) {
-    word(rt, b"ROUTE");
-    number(rt, example);
-    number(rt, source as u64);
-    number(rt, destination as u64);
-    match router::route(book, source, destination, choice) {
-        Found::Tag(tag) => {
-            word(rt, b" TAG");
-            number(rt, tag as u64);
-        }
-        Found::None { stage, number } => stopped(rt, b" NONE", stage, number),
-        Found::Refused(r) => refused(rt, r),
-    }
-    word(rt, b"\n");
-}
-
-fn stopped(rt: &HostRuntime, what: &[u8], stage: u8, by: u16) {
-    word(rt, what);
-    number(rt, stage as u64);
-    word(rt, b" BY");
-    number(rt, by as u64);
+    let _ = print!(rt; "ROUTE {example} {source} {destination}");
+    let _ = match router::route(book, source, destination, choice) {
+        Ok(tag) => println!(rt; " TAG {tag}"),
+        Err(NoRoute::NoClearPath { stage, number }) => println!(rt; " NONE {stage} BY {number}"),
+        Err(NoRoute::Refused(why)) => println!(rt; " REFUSED {}", why.number()),
+    };
 }
 
 fn walk(rt: &HostRuntime, book: Book, source: u16, tag: u32) {
-    word(rt, b"WALK");
-    number(rt, source as u64);
-    number(rt, tag as u64);
-    match walker::walk(book, source, tag) {
-        Ended::Clear => word(rt, b" CLEAR"),
-        Ended::Stopped { stage, number } => stopped(rt, b" STOPPED", stage, number),
-        Ended::Astray => word(rt, b" ASTRAY"),
-        Ended::Refused(r) => refused(rt, r),
-    }
-    word(rt, b"\n");
+    let _ = print!(rt; "WALK {source} {tag}");
+    let _ = match walker::walk(book, source, tag) {
+        Ok(()) => println!(rt; " CLEAR"),
+        Err(NotClear::Stopped { stage, number }) => println!(rt; " STOPPED {stage} BY {number}"),
+        Err(NotClear::Astray) => println!(rt; " ASTRAY"),
+        Err(NotClear::Refused(why)) => println!(rt; " REFUSED {}", why.number()),
+    };
 }

@@ -20,64 +20,36 @@ const ENOSPC: i32 = 28;
 
 const EPIPE: i32 = 32;
 
-// What went wrong, the cause that the system gives for it, and what then.
+// What went wrong, the cause that the system gives for it, and what then. The cause stays an option: a narrower type would ask more of callers.
 pub fn complain(rt: &HostRuntime, what: &[u8], cause: Option<Error>, then: &[u8]) {
     say(rt, what);
-    match cause {
-        Some(error) => say_cause(rt, error),
-        None => {}
+    if let Some(errno) = cause.and_then(|error| error.raw_os_error()) {
+        say_cause(rt, errno);
     }
     say(rt, then);
 }
 
-// An error that the system did not number has no cause to be said.
-fn say_cause(rt: &HostRuntime, cause: Error) {
-    match cause.raw_os_error() {
-        Some(errno) => say_numbered(rt, errno),
-        None => {}
+// The cause in the system's words, and its number. 0 is no cause, and a number below it is none of the system's.
+fn say_cause(rt: &HostRuntime, errno: i32) {
+    if errno != 0 {
+        let _ = eprint!(rt; ": {} (errno {})", words(errno), errno.max(0));
     }
 }
 
-fn say_numbered(rt: &HostRuntime, errno: i32) {
-    if errno == 0 {
-        return;
-    }
-    say(rt, b": ");
-    say_usual(rt, errno);
-    say(rt, b" (errno ");
-    say_number(rt, number(errno));
-    say(rt, b")");
-}
-
-// The usual causes, in the system's words: those that reading and writing share,
-fn say_usual(rt: &HostRuntime, errno: i32) {
+// The usual causes of reading and writing, in the system's words. `Error`'s own `Display` has other words, and what a program says may not change.
+fn words(errno: i32) -> &'static str {
     match errno {
-        EINTR => say(rt, b"Interrupted system call"),
-        EIO => say(rt, b"Input/output error"),
-        EBADF => say(rt, b"Bad file descriptor"),
-        EAGAIN => say(rt, b"Resource temporarily unavailable"),
-        EINVAL => say(rt, b"Invalid argument"),
-        _ => say_other(rt, errno),
+        EINTR => "Interrupted system call",
+        EIO => "Input/output error",
+        EBADF => "Bad file descriptor",
+        EAGAIN => "Resource temporarily unavailable",
+        EISDIR => "Is a directory",
+        EINVAL => "Invalid argument",
+        EFBIG => "File too large",
+        ENOSPC => "No space left on device",
+        EPIPE => "Broken pipe",
+        _ => "Other cause",
     }
-}
-
-// and those of one of the two.
-fn say_other(rt: &HostRuntime, errno: i32) {
-    match errno {
-        EISDIR => say(rt, b"Is a directory"),
-        EFBIG => say(rt, b"File too large"),
-        ENOSPC => say(rt, b"No space left on device"),
-        EPIPE => say(rt, b"Broken pipe"),
-        _ => say(rt, b"Other cause"),
-    }
-}
-
-// The number of an error; the system has none below 1.
-fn number(errno: i32) -> u64 {
-    if errno < 0 {
-        return 0;
-    }
-    errno as u64
 }
 
 pub fn say(rt: &HostRuntime, text: &[u8]) {

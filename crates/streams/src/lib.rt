@@ -4,52 +4,43 @@
 mod complaints; // complaints.rt: what went wrong, on standard error
 
 ghost use Rattle.std.specs.Prelude.{◌≡◌, length, IfSome};
+ghost use Rattle.std.specs.Result.{result_ok};
 ghost use Rattle.input.specs.Answers.{Within};
 ghost use Rattle.streams.specs.Reads.{input_at, HoldsRead, CauseTold};
 
 pub use complaints::{complain, say, say_number};
-use input::Input;
 use std::io;
-use std::io::{Error, Read};
+use std::io::Read;
 
-// Reads until the input ends, the memory is full or a read fails. A read may bring fewer bytes than there is room for. Where it is known what the
-// reader gives, the memory holds that. The cause of a read that failed is left in `cause`.
-pub fn read<R: Read>(reader: &mut R, memory: &mut [u8], cause: &mut Option<Error>) -> Input
-    ensures within { Within (length memory.new) result }
-    ensures held { IfSome (R.remaining reader.old) (λ all. HoldsRead memory.new result all) }
-    ensures told { CauseTold cause.old result cause.new }
+// Reads until the input ends, the memory is full or a read fails, and answers how many bytes came, or why a read failed. A read may bring fewer
+// bytes than there is room for. Where it is known what the reader gives, the memory holds that.
+pub fn read<R: Read>(reader: &mut R, memory: &mut [u8]) -> io::Result<usize>
+    ensures within { Within (length memory.new) (result_ok result) }
+    ensures held { IfSome (R.remaining reader.old) (λ all. HoldsRead memory.new (result_ok result) all) }
 {
+    // no `for`: a turn brings any number of bytes
     let mut bytes = 0;
     while bytes < memory.len() {
         let answer = reader.read(&mut memory[bytes..]);
         match answer {
-            Ok(0) => return input_at(bytes, answer, cause),
+            Ok(0) | Err(_) => return input_at(bytes, answer),
             Ok(more) => bytes += more,
-            Err(_) => return input_at(bytes, answer, cause),
         }
     }
-    Input::Bytes(bytes)
+    Ok(bytes)
 }
 
-// What reading gives once a read brings no more bytes: those that came before, or that it failed.
-fn input_at(bytes: usize, answer: io::Result<usize>, cause: &mut Option<Error>) -> Input
+// What reading gives once a read brings no more bytes: those that came before, or why it failed.
+fn input_at(bytes: usize, answer: io::Result<usize>) -> io::Result<usize>
     ensures value { result ≡ input_at bytes answer }
-    ensures told { CauseTold cause.old result cause.new }
+    ensures told { CauseTold answer result }
 {
-    match answer {
-        Ok(_) => {}
-        Err(error) => {
-            *cause = Some(error);
-            return Input::Failed;
-        }
-    }
-    Input::Bytes(bytes)
+    answer.map(|_| bytes)
 }
 
 // Writes the text on standard output, or says on standard error that it was not taken, in these words, and the cause.
 pub fn print(rt: &HostRuntime, text: &[u8], unwritten: &[u8]) {
-    match rt.write_all(text) {
-        Ok(()) => {}
-        Err(error) => complain(rt, unwritten, Some(error), b"\n"),
+    if let Err(error) = rt.write_all(text) {
+        complain(rt, unwritten, Some(error), b"\n");
     }
 }

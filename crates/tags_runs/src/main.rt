@@ -1,11 +1,10 @@
-// Runs the entries of the crate tags on examples of documents 01 and 000 and on bad input, and prints a line for each call.
+// Runs the entries of the crate tags on the examples of docs/RULES.md and on bad input, and prints a line for each call.
 #![tactic(auto)]
 
 ghost use Rattle.std.specs.Prelude.{◌≤◌};
 
-use show::{bytes, number, refused, word};
-use table::Answer;
-use tags::Tag;
+use show::{bytes, refused, word};
+use table::Refusal;
 
 fn main(rt: HostRuntime) {
     figure_seven(&rt);
@@ -18,22 +17,22 @@ fn main(rt: HostRuntime) {
     rooms(&rt);
 }
 
-// Document 000, Figure 7: tags 000000, 000100 and 000110 lead from 1 to 0 by three paths.
+// docs/RULES.md, 'Tags and steps': the tags 000000, 000100 and 000110 lead from 1 to 0 by three paths.
 fn figure_seven(rt: &HostRuntime) {
     steps(rt, 3, 1, 0, 4);
     steps(rt, 3, 1, 8, 4);
     steps(rt, 3, 1, 24, 4);
-    back(rt, 3, 1, [2, 0, 0, 9], 4);
-    back(rt, 3, 1, [1, 2, 0, 9], 4);
-    back(rt, 3, 1, [1, 1, 2, 9], 4);
+    back(rt, 3, 1, &[2, 0, 0, 9]);
+    back(rt, 3, 1, &[1, 2, 0, 9]);
+    back(rt, 3, 1, &[1, 1, 2, 9]);
 }
 
-// Document 01, example 12: from 0 to 4095 at n = 12 every step is plus.
+// docs/RULES.md, 'Examples', 12: from 0 to 4095 at n = 12 every step is plus.
 fn every_plus(rt: &HostRuntime) {
     steps(rt, 12, 0, 4095, 13);
 }
 
-// Document 01, example 7, and a tag whose every state bit is set.
+// docs/RULES.md, 'Examples', 7, and a tag whose every state bit is set.
 fn normal_forms(rt: &HostRuntime) {
     normal(rt, 3, 1, 40);
     normal(rt, 3, 1, 8);
@@ -46,8 +45,8 @@ fn sizes(rt: &HostRuntime) {
     steps(rt, 0, 65535, 4294967295, 0);
     steps(rt, 13, 65535, 4294967295, 0);
     steps(rt, 255, 65535, 4294967295, 0);
-    back(rt, 0, 65535, [3, 3, 3, 3], 0);
-    back(rt, 13, 65535, [3, 3, 3, 3], 0);
+    back(rt, 0, 65535, &[]);
+    back(rt, 13, 65535, &[]);
     normal(rt, 0, 65535, 4294967295);
     normal(rt, 255, 65535, 4294967295);
 }
@@ -56,8 +55,8 @@ fn sizes(rt: &HostRuntime) {
 fn labels(rt: &HostRuntime) {
     steps(rt, 3, 8, 64, 2);
     steps(rt, 3, 65535, 64, 2);
-    back(rt, 3, 8, [3, 3, 3, 3], 2);
-    back(rt, 3, 65535, [3, 3, 3, 3], 2);
+    back(rt, 3, 8, &[3, 3]);
+    back(rt, 3, 65535, &[3, 3]);
     normal(rt, 3, 8, 64);
     normal(rt, 12, 4096, 16777216);
 }
@@ -75,11 +74,11 @@ fn tag_bounds(rt: &HostRuntime) {
 
 // Number 12 for a code, after 13; bytes after the first n are not read.
 fn codes(rt: &HostRuntime) {
-    back(rt, 3, 1, [1, 2, 3, 0], 4);
-    back(rt, 3, 1, [255, 2, 0, 0], 4);
-    back(rt, 3, 1, [3, 2, 0, 0], 2);
-    back(rt, 3, 1, [1, 2, 0, 255], 4);
-    back(rt, 3, 1, [1, 2, 0, 3], 3);
+    back(rt, 3, 1, &[1, 2, 3, 0]);
+    back(rt, 3, 1, &[255, 2, 0, 0]);
+    back(rt, 3, 1, &[3, 2]);
+    back(rt, 3, 1, &[1, 2, 0, 255]);
+    back(rt, 3, 1, &[1, 2, 0]);
 }
 
 // Number 13: nothing is written; with room to spare the rest stays.
@@ -88,8 +87,8 @@ fn rooms(rt: &HostRuntime) {
     steps(rt, 3, 1, 8, 2);
     steps(rt, 3, 1, 8, 3);
     steps(rt, 3, 1, 8, 4);
-    back(rt, 3, 1, [1, 2, 0, 0], 0);
-    back(rt, 3, 1, [1, 2, 0, 0], 2);
+    back(rt, 3, 1, &[]);
+    back(rt, 3, 1, &[1, 2]);
 }
 
 // Tag to steps into a room of nines.
@@ -97,50 +96,37 @@ fn steps(rt: &HostRuntime, n: u8, source: u16, tag: u32, room: usize)
     requires { room ≤ 16 }
 {
     let mut memory = [9u8; 16];
-    steps_into(rt, n, source, tag, &mut memory[0..room]);
+    steps_into(rt, n, source, tag, &mut memory[..room]);
 }
 
+// The arms do different things: a match is plainest.
 fn steps_into(rt: &HostRuntime, n: u8, source: u16, tag: u32, memory: &mut [u8]) {
     let answer = tagging::tag_to_steps(n, source, tag, memory);
-    word(rt, b"STEPS");
-    number(rt, n as u64);
-    number(rt, source as u64);
-    number(rt, tag as u64);
+    let _ = print!(rt; "STEPS {n} {source} {tag}");
     match answer {
-        Answer::Done => word(rt, b" DONE"),
-        Answer::Refused(r) => refused(rt, r),
+        Ok(()) => word(rt, b" DONE"),
+        Err(why) => refused(rt, why),
     }
     bytes(rt, memory);
     word(rt, b"\n");
 }
 
-// Steps to tag from the first bytes of an array.
-fn back(rt: &HostRuntime, n: u8, source: u16, steps: [u8; 4], room: usize)
-    requires { room ≤ 4 }
-{
-    let answer = tagging::steps_to_tag(n, source, &steps[0..room]);
-    word(rt, b"TAG");
-    number(rt, n as u64);
-    number(rt, source as u64);
-    bytes(rt, &steps[0..room]);
-    told(rt, answer);
+// Steps to tag.
+fn back(rt: &HostRuntime, n: u8, source: u16, steps: &[u8]) {
+    let _ = print!(rt; "TAG {n} {source}");
+    bytes(rt, steps);
+    told(rt, tagging::steps_to_tag(n, source, steps));
 }
 
 fn normal(rt: &HostRuntime, n: u8, source: u16, tag: u32) {
-    word(rt, b"NORMAL");
-    number(rt, n as u64);
-    number(rt, source as u64);
-    number(rt, tag as u64);
+    let _ = print!(rt; "NORMAL {n} {source} {tag}");
     told(rt, tagging::normal_form(n, source, tag));
 }
 
-fn told(rt: &HostRuntime, answer: Tag) {
-    match answer {
-        Tag::Normal(tag) => {
-            word(rt, b" IS");
-            number(rt, tag as u64);
-        }
-        Tag::Refused(r) => refused(rt, r),
-    }
-    word(rt, b"\n");
+// The tag that is answered, and the end of the line.
+fn told(rt: &HostRuntime, answer: Result<u32, Refusal>) {
+    let _ = match answer {
+        Ok(tag) => println!(rt; " IS {tag}"),
+        Err(why) => println!(rt; " REFUSED {}", why.number()),
+    };
 }

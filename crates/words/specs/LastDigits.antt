@@ -1,4 +1,4 @@
--- How the functions that write a number speak to each other. Not document 01's: `decimal` of printed is what they lead to.
+-- How the functions that write a number speak to each other. No rule of docs/RULES.md: `decimal` of printed is what they lead to.
 use Rattle.std.specs.Prelude.{◌≡◌, List, [], ◌∷◌, ◌++◌, ℕ, zero, suc, ◌+◌, ◌/◌, ◌%◌, ◌≤◌, ◌<◌}
 
 -- so many of a number's last digits

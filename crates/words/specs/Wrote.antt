@@ -1,4 +1,4 @@
--- How the functions that write speak to each other. Not document 01's: `Runs` of printed is what they lead to.
+-- How the functions that write speak to each other. No rule of docs/RULES.md: `Runs` of printed is what they lead to.
 use Rattle.std.specs.Prelude.{◌≡◌, List, ◌++◌, ℕ, ◌+◌, length, take, drop}
 
 -- a text was written at a place of lent memory and all else is as before; the place after it

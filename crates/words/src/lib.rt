@@ -1,5 +1,5 @@
-// Document 01, 'The sheet and what is printed': words and numbers, written at a place of lent memory. Each function answers the
-// place after them.
+// docs/RULES.md, 'What is printed': words and numbers, written at a place of lent memory. Each function answers the place after
+// them.
 #![tactic(auto)]
 
 ghost use Rattle.std.specs.Prelude.{◌≡◌, [], ◌++◌, ◌+◌, ◌≤◌, length};
@@ -18,15 +18,14 @@ pub fn word(out: &mut [u8], at: usize, text: &[u8]) -> usize
 }
 
 // A number in decimal, its last digit first.
+// No `write!`: std never promises that it is `Ok`, so `Wrote` does not close.
 fn number(out: &mut [u8], at: usize, x: u16) -> usize
     requires { at + 5 ≤ length out.old }
     ensures { (Wrote out.old at (decimal x) out.new result) × (result ≤ at + 5) }
 {
     let end = at + digits(x);
-    let mut i = end;
     let mut rest = x;
-    while at < i {
-        i -= 1;
+    for i in (at..end).rev() {
         out[i] = 48 + (rest % 10) as u8;
         rest /= 10;
     }
@@ -44,21 +43,17 @@ fn digits(x: u16) -> usize
 fn reaches(least: u16, x: u16) -> usize
     ensures { Reaches least x result }
 {
-    if x < least {
-        return 0;
-    }
-    1
+    usize::from(least <= x)
 }
 
 // Bits 0 to count - 1, in that order.
+// No `write!`: std never promises that it is `Ok`, so `Wrote` does not close.
 pub fn bits(out: &mut [u8], at: usize, count: u8, x: u32) -> usize
     requires { (at + count ≤ length out.old) × (count ≤ 24) }
     ensures { (Wrote out.old at (bits_from 0 count x) out.new result) × (result ≡ at + count) }
 {
-    let mut i = 0;
-    while i < count {
+    for i in 0..count {
         out[at + i as usize] = 48 + ((x >> i) % 2) as u8;
-        i += 1;
     }
     at + count as usize
 }
@@ -81,10 +76,10 @@ pub fn number_told(out: &mut [u8], at: usize, name: &[u8], x: u16) -> usize
     word(out, end, b"\n")
 }
 
-// "`REFUSED` and the table number"
+// "`REFUSED` and the number of the refusal"
 pub fn refusal_told(out: &mut [u8], at: usize, why: Refusal) -> usize
     requires { at + 15 ≤ length out.old }
     ensures { (Wrote out.old at (ending (refusal why)) out.new result) × (result ≤ at + 15) }
 {
-    number_told(out, at, b" REFUSED ", table::number(why) as u16)
+    number_told(out, at, b" REFUSED ", u16::from(why.number()))
 }

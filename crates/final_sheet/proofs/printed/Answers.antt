@@ -4,4 +4,5 @@ use Rattle.finals.proofs.Finals.{final_within}
 use Rattle.final_sheet.proofs.printed.Goals as goal
 
 pub slice_bounds-result-end : goal.slice_bounds-result-end
-slice_bounds-result-end c = sym (length-take-le c.in-Sheet.bytes c.args.memory.now (final_within c.requires.3 c.in-Sheet.is))
+slice_bounds-result-end c =
+    sym (length-take-le c.from.result c.args.memory.now (rw c.from.ensures (final_within c.requires.3 c.in-Ok.is)))

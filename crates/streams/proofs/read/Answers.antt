@@ -11,4 +11,4 @@ loop-bytes-preserved g c =
     let room = length c.loop-bytes.memory - from in
     let within = c.loop-bytes.invariant.1 in
     let long = joined from room c.in-Ok.more c.loop-bytes.memory c.read-answer.new.buf within c.in-Ok.ensures.bound.0 in
-    (search rules, search rules, subst (Consumes _ _) long (Consumes-trans _ _ _ _ _ c.loop-bytes.invariant.2 c.in-Ok.ensures.bytes.0), search rules)
+    (search rules, search rules, subst (Consumes _ _) long (Consumes-trans _ _ _ _ _ c.loop-bytes.invariant.2 c.in-Ok.ensures.bytes.0))

@@ -4,7 +4,7 @@ use Rattle.std.specs.Io.KnownBytes.{Consumes}
 use Rattle.streams.proofs.read.Given as goal
 
 abbrev pub invariant-loop-bytes : goal.invariant-loop-bytes
-invariant-loop-bytes g l = (length l.memory ≡ length l.initial.memory) × (l.bytes ≤ length l.memory) × Consumes (g.R.Read.remaining l.initial.reader) (g.R.Read.remaining l.reader) (take l.bytes l.memory) × (l.cause ≡ l.initial.cause)
+invariant-loop-bytes g l = (length l.memory ≡ length l.initial.memory) × (l.bytes ≤ length l.memory) × Consumes (g.R.Read.remaining l.initial.reader) (g.R.Read.remaining l.reader) (take l.bytes l.memory)
 
 abbrev pub decreases-loop-bytes : goal.decreases-loop-bytes
 decreases-loop-bytes g l = length l.initial.memory - l.bytes

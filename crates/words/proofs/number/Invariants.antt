@@ -10,8 +10,5 @@ use Rattle.words.proofs.number.Given as goal
 
 abbrev pub invariant-loop-i : goal.invariant-loop-i
 invariant-loop-i l =
-    (l.at ≤ l.i) × (l.i ≤ l.end) × (length l.out ≡ length l.initial.out)
+    (l.at ≤ l.i) × (length l.out ≡ length l.initial.out)
     × ((tail : List ℕ) × (last_digits (l.i - l.at) l.rest ++ tail ≡ decimal l.x) × Wrote l.initial.out l.i tail l.out l.end)
-
-abbrev pub decreases-loop-i : goal.decreases-loop-i
-decreases-loop-i l = l.i
