@@ -1,21 +1,59 @@
-// For bench/ alone: many questions about links in one call, each in two forms: the link test, in one pass (0) and as it was before document 02, §4 (1); and
-// what stops the three links of a switch, together (2) and one after the other (3). The promises here are about memory; what the answers mean is said by
-// `Tests` and `stopper`.
+// For bench/ alone: many questions about links in one call, each in two forms: the link test, in one pass (0) and as it was before (1); and what stops the
+// three links of a switch, together (2) and one after the other (3). The promises here are about memory; what the answers mean is said by `Tests` and
+// `stopper`.
 #![tactic(auto)]
 
-ghost use Rattle.std.specs.Prelude.{◌≡◌, false, ◌<◌, length};
+ghost use Rattle.std.specs.Prelude.{◌≡◌, false, ◌<◌};
 ghost use Rattle.fabric.specs.Labels.{size};
-ghost use Rattle.book.specs.Standing.{Sound};
 
 use asked::Lowest;
-use book::Book;
-use book_maker::book_of;
-use packer::link_told;
-use questions::Link;
-use table::{Answer, Refusal};
+use book::SoundBook;
+use book_maker::sound_book_of;
+use packer::told;
+use table::Refusal;
 
-// Answers each link: its switch stands in the low 16 bits, its stage in the next 8, its code in the last 8. Refused where there is not one answer for
-// each, or the sheet is none; then nothing is written.
+// What is asked, and how it is found; C hands over a number, and each that is none of the first three is the last.
+#[derive(Clone, Copy)]
+enum Form {
+    OnePass,
+    AsItWas,
+    Together,
+    OneByOne,
+}
+
+impl From<u8> for Form {
+    fn from(form: u8) -> Form {
+        match form {
+            0 => Form::OnePass,
+            1 => Form::AsItWas,
+            2 => Form::Together,
+            _ => Form::OneByOne,
+        }
+    }
+}
+
+// Which link is asked for; there may be none such.
+#[derive(Clone, Copy)]
+struct Question {
+    stage: u8,
+    switch: u16,
+    code: u8,
+}
+
+// Its switch stands in the low 16 bits, its stage in the next 8, its code in the last 8.
+impl From<u32> for Question {
+    fn from(link: u32) -> Question {
+        let [low, high, stage, code] = link.to_le_bytes();
+        Question {
+            stage,
+            switch: u16::from_le_bytes([low, high]),
+            code,
+        }
+    }
+}
+
+// Answers each link. Refused where there is not one answer for each, or the sheet is none; then nothing is written.
+// A bool: the C interface.
 #[unsafe(no_mangle)]
 pub extern "C" fn bench_links(sheet: &[u8], links: &[u32], answers: &mut [u64], form: u8) -> bool
     ensures { result ≡ false → answers.new ≡ answers.old }
@@ -23,69 +61,62 @@ pub extern "C" fn bench_links(sheet: &[u8], links: &[u32], answers: &mut [u64], 
     if links.len() != answers.len() {
         return false;
     }
-    let made = book_of(sheet);
-    let answer = made.answer;
-    match answer {
-        Answer::Done => {
-            answer_all(made.book, links, answers, form);
+    match sound_book_of(sheet) {
+        Ok(book) => {
+            answer_all(&book, links, answers, Form::from(form));
             true
         }
-        Answer::Refused(_) => false,
+        Err(_) => false,
     }
 }
 
-fn answer_all(book: Book, links: &[u32], answers: &mut [u64], form: u8)
-    requires { (Sound book) × (length links.now ≡ length answers.old) }
-{
-    let mut k: usize = 0;
-    while k < answers.len() {
-        answers[k] = answered(book, links[k], form);
-        k += 1;
+fn answer_all(book: &SoundBook, links: &[u32], answers: &mut [u64], form: Form) {
+    for (link, answer) in links.iter().zip(answers.iter_mut()) {
+        *answer = answered(book, Question::from(*link), form);
     }
 }
 
-fn answered(book: Book, link: u32, form: u8) -> u64
-    requires { Sound book }
-{
-    let switch = (link % 65536) as u16;
-    let stage = (link / 65536 % 256) as u8;
-    let code = (link / 16777216 % 256) as u8;
-    if form == 0 {
-        return link_told(asked::link(book, stage, switch, code));
+fn answered(book: &SoundBook, question: Question, form: Form) -> u64 {
+    let Question {
+        stage,
+        switch,
+        code,
+    } = question;
+    match form {
+        Form::OnePass => told(asked::link(book.book, stage, switch, code)),
+        Form::AsItWas => told(judged_first(book, stage, switch, code)),
+        Form::Together | Form::OneByOne => three(book, stage, switch, form),
     }
-    if form == 1 {
-        return link_told(judged_first(book, stage, switch, code));
-    }
-    three(book, stage, switch, form == 2)
 }
 
 // The entry as it was: 16 by the book's own test, and then what stops the link.
-fn judged_first(book: Book, stage: u8, switch: u16, code: u8) -> Link {
-    if book::unsound(book) {
-        return Link::Refused(Refusal::Book);
+fn judged_first(
+    book: &SoundBook,
+    stage: u8,
+    switch: u16,
+    code: u8,
+) -> Result<Option<u16>, Refusal> {
+    if book.book.unsound() {
+        return Err(Refusal::Book);
     }
     asked::tested(book, stage, switch, code)
 }
 
 // The three numbers of a switch as one; 0 for a switch that is none.
-fn three(book: Book, stage: u8, switch: u16, at_once: bool) -> u64
-    requires { Sound book }
-{
-    let n = book.n;
-    if n <= stage {
+// 0 for none: the number that C takes.
+fn three(book: &SoundBook, stage: u8, switch: u16, form: Form) -> u64 {
+    if book.book.n <= stage || book.fabric().outside_labels(switch) {
         return 0;
     }
-    if fabric::outside_labels(n, switch) {
-        return 0;
-    }
-    if at_once {
-        return joined(asked::stoppers(book, stage, switch));
-    }
-    joined(one_by_one(book, stage, switch))
+    let found = match form {
+        Form::Together => asked::stoppers(book, stage, switch),
+        _ => one_by_one(book, stage, switch),
+    };
+    joined(found)
 }
 
-fn one_by_one(book: Book, stage: u8, switch: u16) -> Lowest
-    requires { (Sound book) × (stage < book.n) × (switch < size book.n) }
+fn one_by_one(book: &SoundBook, stage: u8, switch: u16) -> Lowest
+    requires { (stage < book.now.book.n) × (switch < size book.now.book.n) }
 {
     Lowest {
         straight: asked::stopper(book, stage, switch, 0),
@@ -94,6 +125,11 @@ fn one_by_one(book: Book, stage: u8, switch: u16) -> Lowest
     }
 }
 
+// 16 bits for each link, the straight one's lowest; 0 where a link is clear.
+// 0 for none: the number that C takes.
 fn joined(found: Lowest) -> u64 {
-    found.straight as u64 + 65536 * found.plus as u64 + 4294967296 * found.minus as u64
+    let [straight, plus, minus] = [found.straight, found.plus, found.minus].map(|number| u64::from(
+        number.unwrap_or(0),
+    ));
+    straight | plus << 16 | minus << 32
 }

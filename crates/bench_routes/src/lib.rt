@@ -2,12 +2,12 @@
 // it. The promises here are about memory; what the answers mean is said by `Routes` in the router.
 #![tactic(auto)]
 
-ghost use Rattle.std.specs.Prelude.{◌≡◌, false, ◌/◌, length};
+ghost use Rattle.std.specs.Prelude.{◌≡◌, false};
 
 use book::Book;
-use book_maker::book_of;
-use packer::{found, refused};
-use table::Answer;
+use book_maker::{book_of, sound_book_of};
+use packer::{found, told};
+use table::Refusal;
 
 // How many notices stand in the book that a sheet makes.
 #[unsafe(no_mangle)]
@@ -16,6 +16,7 @@ pub extern "C" fn bench_standing(sheet: &[u8]) -> usize {
 }
 
 // The entry `route`, which judges the book for each pair. Refused where there is not room for one answer a pair; then nothing is written.
+// A bool: the C interface.
 #[unsafe(no_mangle)]
 pub extern "C" fn bench_routes(sheet: &[u8], choice: u8, pairs: &[u16], answers: &mut [u64]) -> bool
     ensures { result ≡ false → answers.new ≡ answers.old }
@@ -23,22 +24,18 @@ pub extern "C" fn bench_routes(sheet: &[u8], choice: u8, pairs: &[u16], answers:
     if pairs.len() / 2 != answers.len() {
         return false;
     }
-    let made = book_of(sheet);
-    answer(made.book, choice, pairs, answers);
+    answer(book_of(sheet).book, choice, pairs, answers);
     true
 }
 
-fn answer(book: Book, choice: u8, pairs: &[u16], answers: &mut [u64])
-    requires { length pairs.now / 2 ≡ length answers.old }
-{
-    let mut k: usize = 0;
-    while k < answers.len() {
-        answers[k] = found(router::route(book, pairs[2 * k], pairs[2 * k + 1], choice));
-        k += 1;
+fn answer(book: Book, choice: u8, pairs: &[u16], answers: &mut [u64]) {
+    for (pair, answer) in pairs.chunks_exact(2).zip(answers.iter_mut()) {
+        *answer = found(router::route(book, pair[0], pair[1], choice));
     }
 }
 
 // `routed`, over a book that is sound by proof, as a host asks it.
+// A number: the C interface.
 #[unsafe(no_mangle)]
 pub extern "C" fn bench_routed(
     sheet: &[u8],
@@ -46,10 +43,9 @@ pub extern "C" fn bench_routed(
     pairs: &[u16],
     answers: &mut [u64],
 ) -> u64 {
-    let made = book_of(sheet);
-    let answer = made.answer;
-    match answer {
-        Answer::Done => many_routes::routes(made.book, choice, pairs, answers),
-        Answer::Refused(why) => refused(why),
-    }
+    told(routed(sheet, choice, pairs, answers))
+}
+
+fn routed(sheet: &[u8], choice: u8, pairs: &[u16], answers: &mut [u64]) -> Result<(), Refusal> {
+    many_routes::routes(&sound_book_of(sheet)?, choice, pairs, answers)
 }

@@ -11,9 +11,8 @@ use Rattle.packing.specs.Packed.{packed, Tells}
 use Rattle.packer.specs.Headers.{header_told}
 use Rattle.packer.proofs.Headers.{header_unpacks}
 use Rattle.packing.proofs.Once.{tells_all}
-use Rattle.sheet.specs.declared.Header.{Header}
 use Rattle.actions.specs.Layout.{bytes_before}
-use Rattle.sheet.specs.Format.{version_in, each_in}
+use Rattle.sheet.specs.Format.{version_in, each_in, headed}
 use Rattle.sheet.specs.Entries.{header_checks, ReadsHeader, there_checks, start_of, part_of}
 use Rattle.sheet.proofs.Promises.{header_passed, header_fields, header_sizes}
 use Rattle.sheet.proofs.Meanings.{length_exactly}
@@ -21,10 +20,10 @@ use Rattle.actions.proofs.Laid.{two_lengths}
 use Rattle.sheet.proofs.Sheets.{header_once}
 
 -- 0 in the low byte, and of the value n in the low byte, the count from bit 8 on, the version from bit 24 on
-pub header_read_off : (sheet : List ℕ) (n count version r : ℕ) → ReadsHeader sheet (Header.Sheet n count version) → Tells (ReadsHeader sheet) header_told r
+pub header_read_off : (sheet : List ℕ) (n count version r : ℕ) → ReadsHeader sheet (headed n count version) → Tells (ReadsHeader sheet) header_told r
     → (r % 256 ≡ 0) × (r / 256 % 256 ≡ n) × (r / 256 / 256 % 65536 ≡ count) × (r / 256 / 16777216 ≡ version)
 header_read_off sheet n count version r reads t =
-    let e : r ≡ packed (header_told (Header.Sheet n count version)) = tells_all (ReadsHeader sheet) header_told (header_once sheet) r t (Header.Sheet n count version) reads in
+    let e : r ≡ packed (header_told (headed n count version)) = tells_all (ReadsHeader sheet) header_told (header_once sheet) r t (headed n count version) reads in
     let size = (header_sizes reads refl).1 in
     let same = (header_fields reads).1 in
     let few = ((length_exactly sheet).0 (passed_nth (header_checks sheet) 2 (header_passed reads))).0 in

@@ -1,3 +1,5 @@
+-- a change of the book of a sheet
+pub mod Changing
 -- values that fit
 pub mod Few
 -- no second answer, and no second memory

@@ -3,11 +3,10 @@
 use mathlib.Core.Path.{◌≡◌, ap, sym, ◌∙◌}
 use mathlib.Core.List.{List}
 use Prim.Native.Nat.{ℕ}
-use Rattle.table.specs.Reply.{answer_says}
+use Rattle.table.specs.Reply.{answer_says, Answer}
 use Rattle.packing.specs.Packed.{packed, Tells}
 use Rattle.book.specs.declared.Book.{Book}
-use Rattle.questions.specs.declared.Listing.{Listing}
-use Rattle.questions.specs.Entries.{listing_says, Lists}
+use Rattle.questions.specs.Entries.{listing_says, Lists, Listing}
 use Rattle.questions.proofs.Once.{lists_once}
 use Rattle.pairs.specs.Pairs.{RoutesPairs}
 use Rattle.pairs.proofs.Pairs.{pairs_once}
@@ -15,9 +14,7 @@ use Rattle.handed.specs.Books.{OverLent}
 use Rattle.handed.proofs.Once.{over_once}
 use Rattle.tags.specs.Entries.{TagToSteps}
 use Rattle.tags.proofs.Entries.{tag_to_steps_once}
-use Rattle.table.specs.declared.Answer.{Answer}
-use Rattle.printed.specs.declared.Ran.{Ran}
-use Rattle.printed.specs.Runs.{ran_says, Runs}
+use Rattle.printed.specs.Runs.{ran_says, Runs, Ran}
 use Rattle.printed.proofs.RunOnce.{run_once}
 
 pub steps_told_once : (n s tag : ℕ) (before after later : List ℕ) (q r : ℕ)

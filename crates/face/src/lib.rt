@@ -1,6 +1,8 @@
-// Document 01's entries, with document 02's §1 to §5, for C and Rust: numbers and byte slices alone. include/tabashfar.h says how a host calls them. An answer is one
-// number (`packed`): its low byte is the table's number, 0 where the call was accepted, and the bits from 8 on hold the value.
+// The entries of docs/RULES.md for C and Rust: numbers and byte slices alone. include/tabashfar.h says how a host calls them. An answer is one number
+// (`packed`): its low byte is the table's number, 0 where the call was accepted, and the bits from 8 on hold the value.
 #![tactic(auto)]
+
+mod over_sheet; // over_sheet.rt: the entries over the book that a sheet makes
 
 ghost use Rattle.table.specs.Reply.{answer_says};
 ghost use Rattle.std.specs.Prelude.{◌≡◌, ◌+◌, ◌*◌, length};
@@ -24,61 +26,42 @@ ghost use Rattle.handed.specs.Books.{OverSheet, OverLent};
 
 use actions::HEADER_LENGTH;
 use book::Book;
-use book_maker::book_of;
 use notices::{Notice, Target};
-use packer::{
-    BYTE, answered, ended, found, header_told, link_told, listed, ran, refused, tag_told, written,
-};
-use table::Answer;
+use packer::{BYTE, ended, found, told};
 
-// "tag to steps (n, source, tag, memory)"
+// "Tag to steps (n, source, tag, memory)"
 #[unsafe(no_mangle)]
 pub extern "C" fn tabashfar_tag_to_steps(n: u8, source: u16, tag: u32, memory: &mut [u8]) -> u64
     ensures { Tells (λ a. TagToSteps n source tag memory.old a memory.new) answer_says result }
 {
-    answered(tagging::tag_to_steps(n, source, tag, memory))
+    told(tagging::tag_to_steps(n, source, tag, memory))
 }
 
-// "steps to tag (n, source, memory)"
+// "Steps to tag (n, source, memory)"
 #[unsafe(no_mangle)]
 pub extern "C" fn tabashfar_steps_to_tag(n: u8, source: u16, memory: &[u8]) -> u64
     ensures { Tells (StepsToTag n source memory.now) tag_says result }
 {
-    tag_told(tagging::steps_to_tag(n, source, memory))
+    told(tagging::steps_to_tag(n, source, memory))
 }
 
-// "normal form of a tag (n, source, tag)"
+// "Normal form (n, source, tag)"
 #[unsafe(no_mangle)]
 pub extern "C" fn tabashfar_normal_form(n: u8, source: u16, tag: u32) -> u64
     ensures { Tells (NormalForm n source tag) tag_says result }
 {
-    tag_told(tagging::normal_form(n, source, tag))
+    told(tagging::normal_form(n, source, tag))
 }
 
-// "open (n)", the book handed back as a sheet
+// "Open (n)", the book handed back as a sheet
 #[unsafe(no_mangle)]
 pub extern "C" fn tabashfar_open(n: u8, memory: &mut [u8]) -> u64
     ensures { Tells (OpensSheet n memory.old memory.new) written_says result }
 {
-    let kept = Book::open(n);
-    written(writer::handed_back(kept, memory))
+    told(writer::handed_back(Book::open(n), memory))
 }
 
-fn filed(sheet: &[u8], notice: Notice, memory: &mut [u8]) -> u64
-    ensures { Asks sheet.now (Change.file notice) memory.old memory.new result }
-{
-    let handed = book_of(sheet);
-    let makes = handed.answer;
-    match makes {
-        Answer::Done => {
-            let kept = handed.book.filed(notice);
-            written(writer::handed_back(kept, memory))
-        }
-        Answer::Refused(why) => refused(why),
-    }
-}
-
-// "file", of each target, the book handed back as a sheet
+// "File", of each target, the book handed back as a sheet
 #[unsafe(no_mangle)]
 pub extern "C" fn tabashfar_file_links(
     sheet: &[u8],
@@ -91,15 +74,12 @@ pub extern "C" fn tabashfar_file_links(
 ) -> u64
     ensures { Asks sheet.now (Change.file (record { number = number; target = Links stage switch set; class = class })) memory.old memory.new result }
 {
-    filed(
-        sheet,
-        Notice {
-            number,
-            target: Target::Links { stage, switch, set },
-            class,
-        },
-        memory,
-    )
+    let notice = Notice {
+        number,
+        target: Target::Links { stage, switch, set },
+        class,
+    };
+    told(over_sheet::file(sheet, notice, memory))
 }
 
 #[unsafe(no_mangle)]
@@ -113,15 +93,12 @@ pub extern "C" fn tabashfar_file_switch(
 ) -> u64
     ensures { Asks sheet.now (Change.file (record { number = number; target = Switch column switch; class = class })) memory.old memory.new result }
 {
-    filed(
-        sheet,
-        Notice {
-            number,
-            target: Target::Switch { column, switch },
-            class,
-        },
-        memory,
-    )
+    let notice = Notice {
+        number,
+        target: Target::Switch { column, switch },
+        class,
+    };
+    told(over_sheet::file(sheet, notice, memory))
 }
 
 #[unsafe(no_mangle)]
@@ -137,78 +114,52 @@ pub extern "C" fn tabashfar_file_pattern(
 ) -> u64
     ensures { Asks sheet.now (Change.file (record { number = number; target = Pattern stage value mask set; class = class })) memory.old memory.new result }
 {
-    filed(
-        sheet,
-        Notice {
-            number,
-            target: Target::Pattern {
-                stage,
-                value,
-                mask,
-                set,
-            },
-            class,
+    let notice = Notice {
+        number,
+        target: Target::Pattern {
+            stage,
+            value,
+            mask,
+            set,
         },
-        memory,
-    )
+        class,
+    };
+    told(over_sheet::file(sheet, notice, memory))
 }
 
-// "withdraw", the book handed back as a sheet
+// "Withdraw", the book handed back as a sheet
 #[unsafe(no_mangle)]
 pub extern "C" fn tabashfar_withdraw(sheet: &[u8], number: u16, memory: &mut [u8]) -> u64
     ensures { Asks sheet.now (Change.withdraw number) memory.old memory.new result }
 {
-    let mut kept = book_of(sheet);
-    let makes = kept.answer;
-    match makes {
-        Answer::Done => {
-            kept = kept.book.withdrawn(number);
-            written(writer::handed_back(kept, memory))
-        }
-        Answer::Refused(why) => refused(why),
-    }
+    told(over_sheet::withdraw(sheet, number, memory))
 }
 
-// "Write a version 1 sheet from a book", or version 2 "when any busy notice stands"
+// "A book is written as a sheet", of version 2 "where some notice that stands is busy"
 #[unsafe(no_mangle)]
 pub extern "C" fn tabashfar_write(sheet: &[u8], memory: &mut [u8]) -> u64
     ensures { OverLent sheet.now memory.old memory.new (λ b. Tells (Writes b memory.old memory.new) written_says) result }
 {
-    let handed = book_of(sheet);
-    let makes = handed.answer;
-    match makes {
-        Answer::Done => written(writer::written(handed.book, memory)),
-        Answer::Refused(why) => refused(why),
-    }
+    told(over_sheet::write(sheet, memory))
 }
 
-// "link stopped or not"
+// "Link test"
 #[unsafe(no_mangle)]
 pub extern "C" fn tabashfar_link(sheet: &[u8], stage: u8, switch: u16, code: u8) -> u64
     ensures { OverSheet sheet.now (λ b. Tells (Tests b stage switch code) link_says) result }
 {
-    let handed = book_of(sheet);
-    let makes = handed.answer;
-    match makes {
-        Answer::Done => link_told(asked::tested(handed.book, stage, switch, code)),
-        Answer::Refused(why) => refused(why),
-    }
+    told(over_sheet::link(sheet, stage, switch, code))
 }
 
-// "route", over all notices or broken ones only
+// "Route", over all notices or broken ones only
 #[unsafe(no_mangle)]
 pub extern "C" fn tabashfar_route(sheet: &[u8], source: u16, destination: u16, choice: u8) -> u64
     ensures { OverSheet sheet.now (λ b. Tells (Routes b source destination choice) route_says) result }
 {
-    let handed = book_of(sheet);
-    let makes = handed.answer;
-    match makes {
-        Answer::Done => found(router::routed(handed.book, source, destination, choice)),
-        Answer::Refused(why) => refused(why),
-    }
+    found(over_sheet::route(sheet, source, destination, choice))
 }
 
-// "route", for each pair of a source and a destination, in order: one book and one choice for all, and the answers at the front of the memory
+// "Route", for each pair of a source and a destination, in order: one book and one choice for all, and the answers at the front of the memory
 #[unsafe(no_mangle)]
 pub extern "C" fn tabashfar_routes(
     sheet: &[u8],
@@ -218,71 +169,58 @@ pub extern "C" fn tabashfar_routes(
 ) -> u64
     ensures { OverLent sheet.now answers.old answers.new (λ b. RoutesPairs b choice pairs.now answers.old answers.new) result }
 {
-    let handed = book_of(sheet);
-    let makes = handed.answer;
-    match makes {
-        Answer::Done => many_routes::routes(handed.book, choice, pairs, answers),
-        Answer::Refused(why) => refused(why),
-    }
+    told(over_sheet::routes(sheet, choice, pairs, answers))
 }
 
-// "walk (book, source, tag)"
+// "Walk (book, source, tag)"
 #[unsafe(no_mangle)]
 pub extern "C" fn tabashfar_walk(sheet: &[u8], source: u16, tag: u32) -> u64
     ensures { OverSheet sheet.now (λ b. Tells (Walks b source tag) walk_says) result }
 {
-    let handed = book_of(sheet);
-    let makes = handed.answer;
-    match makes {
-        Answer::Done => ended(walker::walked(handed.book, source, tag)),
-        Answer::Refused(why) => refused(why),
-    }
+    ended(over_sheet::walk(sheet, source, tag))
 }
 
-// "listing"
+// "Listing"
 #[unsafe(no_mangle)]
+#[tactic(auto, using(crate::proofs::Few::few_fit))]
 pub extern "C" fn tabashfar_listing(sheet: &[u8], memory: &mut [u8]) -> u64
     ensures { OverLent sheet.now memory.old memory.new (λ b. Tells (Lists b memory.old memory.new) listing_says) result }
 {
-    let handed = book_of(sheet);
-    let makes = handed.answer;
-    match makes {
-        Answer::Done => listed(asked::listed(handed.book, memory)),
-        Answer::Refused(why) => refused(why),
-    }
+    told(over_sheet::list(sheet, memory))
 }
 
-// "sheet header": n in the low byte of the value, the count from bit 8 on, the version from bit 24 on
+// "Header (sheet)": n in the low byte of the value, the count from bit 8 on, the version from bit 24 on
 #[unsafe(no_mangle)]
 pub extern "C" fn tabashfar_header(sheet: &[u8]) -> u64
     ensures { Tells (ReadsHeader sheet.now) header_told result }
 {
-    header_told(sheet_reader::read_header(sheet))
+    told(sheet_reader::read_header(sheet))
 }
 
-// "For a sheet and k, counted from 0, one entry says whether the action is there"
+// "Is action k there (sheet, k), k from 0 on"
 #[unsafe(no_mangle)]
 pub extern "C" fn tabashfar_has_action(sheet: &[u8], k: usize) -> u64
     ensures { Tells (HasAction sheet.now k) answer_says result }
 {
-    answered(sheet_reader::has_action(sheet, k))
+    told(sheet_reader::has_action(sheet, k))
 }
 
-// "A second entry returns a part only": how long it is in the low byte, and from bit 8 on where in the sheet it starts
+// "Part of action k (sheet, k)": how long it is in the low byte, and from bit 8 on where in the sheet it starts; 0 where it is not there, as the C
+// interface says
 #[unsafe(no_mangle)]
 pub extern "C" fn tabashfar_action_part(sheet: &[u8], k: usize) -> u64
     ensures { result ≡ length (part_of sheet.now k) + byte * start_of sheet.now k }
 {
     match sheet_reader::has_action(sheet, k) {
-        Answer::Done => {
+        Ok(()) => {
             let each = sheet_reader::each_in(sheet);
             each as u64 + BYTE * (HEADER_LENGTH + each * k) as u64
         }
-        Answer::Refused(_) => 0,
+        Err(_) => 0,
     }
 }
 
-// "action reader (a part)"
+// "Action reader (part)"
 #[unsafe(no_mangle)]
 pub extern "C" fn tabashfar_read_action(part: &[u8]) -> u64
     ensures { Tells (ReadsAction part.now) kind_says result }
@@ -290,7 +228,7 @@ pub extern "C" fn tabashfar_read_action(part: &[u8]) -> u64
     field_reader::kind(action_bytes::read_action(part))
 }
 
-// "otherwise the action with its fields": the eight of them at the front of the memory
+// "Past these it answers the action and its fields": the eight of them at the front of the memory
 #[unsafe(no_mangle)]
 pub extern "C" fn tabashfar_action_fields(part: &[u8], memory: &mut [u16]) -> u64
     ensures { ReadsFields part.now memory.old memory.new result }
@@ -303,5 +241,5 @@ pub extern "C" fn tabashfar_action_fields(part: &[u8], memory: &mut [u16]) -> u6
 pub extern "C" fn tabashfar_run(sheet: &[u8], memory: &mut [u8]) -> u64
     ensures { Tells (λ a. Runs sheet.now memory.old a memory.new) ran_says result }
 {
-    ran(printer::run(sheet, memory))
+    told(printer::run(sheet, memory))
 }

@@ -1,38 +1,33 @@
 // An answer as one number (`packed`): the table's number in the low byte, 0 where the call was accepted, and the value after it.
 #![tactic(auto)]
 
-ghost use Rattle.table.specs.Reply.{answer_says};
-ghost use Rattle.std.specs.Prelude.{◌≡◌, [], ◌∷◌, ℕ, ◌*◌, ◌^◌, ◌≤◌, ◌<◌};
-ghost use Rattle.tags.specs.Entries.{tag_says};
-ghost use Rattle.questions.specs.Entries.{link_says, listing_says};
-ghost use Rattle.walks.specs.Entries.{walk_says};
-ghost use Rattle.written.specs.Sheets.{written_says};
-ghost use Rattle.routes.specs.Routed.{route_says};
-ghost use Rattle.printed.specs.Runs.{most_room, ran_says};
-ghost use Rattle.table.specs.Numbers.{number_of};
-ghost use Rattle.packing.specs.Packed.{byte, value_of, packed};
-ghost use Rattle.packer.specs.Headers.{header_told};
+mod values; // values.rt: what comes with an accepted call, as one number
 
-use printed::Ran;
-use questions::{Link, Listing};
-use routes::Found;
-use sheet::Header;
-use table::{Answer, Refusal};
-use tags::Tag;
-use walks::Ended;
-use written::Written;
+ghost use Rattle.std.specs.Prelude.{◌≡◌, [], ◌∷◌, ◌*◌, ◌^◌, ◌<◌, IfOk};
+ghost use Rattle.table.specs.Numbers.{number_of};
+ghost use Rattle.table.specs.Reply.{says};
+ghost use Rattle.walks.specs.Entries.{walk_says};
+ghost use Rattle.routes.specs.Routed.{route_says};
+ghost use Rattle.packing.specs.Packed.{byte, value_of, packed};
+
+use routes::NoRoute;
+use table::Refusal;
+pub use values::Values;
+use walks::NotClear;
 
 // What fits a byte.
 pub const BYTE: u64 = 256;
 
 // A refusal that comes alone.
+// One number, put together by hand: the C interface has it so.
 pub fn refused(why: Refusal) -> u64
     ensures { result ≡ number_of why }
 {
-    table::number(why) as u64
+    u64::from(why.number())
 }
 
 // A value that comes with 0, the table's number of a call that was accepted.
+// One number, put together by hand: the C interface has it so.
 pub fn value(x: u64) -> u64
     requires { x < 2 ^ 56 }
     ensures { result ≡ byte * x }
@@ -40,99 +35,45 @@ pub fn value(x: u64) -> u64
     BYTE * x
 }
 
-pub fn tag_told(answer: Tag) -> u64
-    ensures { result ≡ packed (tag_says answer) }
+// What an entry answers that is accepted with its values, or refused by a number alone.
+#[tactic(auto, using(packing::proofs::Unpacking::accepted_packs))]
+pub fn told<T: Values>(answer: Result<T, Refusal>) -> u64
+    requires { IfOk answer T.fits }
+    ensures { result ≡ packed (says T.values answer) }
 {
     match answer {
-        Tag::Normal(tag) => value(tag as u64),
-        Tag::Refused(why) => refused(why),
-    }
-}
-
-pub fn answered(answer: Answer) -> u64
-    ensures { result ≡ packed (answer_says answer) }
-{
-    match answer {
-        Answer::Done => 0,
-        Answer::Refused(why) => refused(why),
-    }
-}
-
-pub fn link_told(answer: Link) -> u64
-    ensures { result ≡ packed (link_says answer) }
-{
-    match answer {
-        Link::Clear => 0,
-        Link::Stopped(number) => value(number as u64),
-        Link::Refused(why) => refused(why),
-    }
-}
-
-pub fn listed(answer: Listing) -> u64
-    requires { (count : ℕ) → answer ≡ Listing.Listed count → count ≤ 48 }
-    ensures { result ≡ packed (listing_says answer) }
-{
-    match answer {
-        Listing::Listed(count) => value(count as u64),
-        Listing::Refused(why) => refused(why),
-    }
-}
-
-pub fn written(answer: Written) -> u64
-    ensures { result ≡ packed (written_says answer) }
-{
-    match answer {
-        Written::Sheet(bytes) => value(bytes as u64),
-        Written::Refused(why) => refused(why),
+        Ok(x) => value(x.value()),
+        Err(why) => refused(why),
     }
 }
 
 // What comes with 11: the stage in the low byte, and the notice's number from bit 8 on.
+// One number, put together by hand: the C interface has it so.
 fn stopped_at(stage: u8, number: u16) -> u64
     ensures { (result ≡ value_of (stage ∷ number ∷ [])) × (result < 2 ^ 24) }
 {
-    stage as u64 + BYTE * number as u64
+    u64::from(stage) + BYTE * u64::from(number)
 }
 
-pub fn ended(answer: Ended) -> u64
+// What a walk answers. 11 comes with two values and 17 is no refusal: a match reads plainer than a second trait, for what an error says.
+pub fn ended(answer: Result<(), NotClear>) -> u64
     ensures { result ≡ packed (walk_says answer) }
 {
     match answer {
-        Ended::Clear => 0,
-        Ended::Stopped { stage, number } => 11 + value(stopped_at(stage, number)),
-        Ended::Astray => 17,
-        Ended::Refused(why) => refused(why),
+        Ok(()) => 0,
+        Err(NotClear::Stopped { stage, number }) => 11 + value(stopped_at(stage, number)),
+        Err(NotClear::Astray) => 17,
+        Err(NotClear::Refused(why)) => refused(why),
     }
 }
 
-pub fn found(answer: Found) -> u64
+// What a route answers. 11 comes with two values: a match, as above.
+pub fn found(answer: Result<u32, NoRoute>) -> u64
     ensures { result ≡ packed (route_says answer) }
 {
     match answer {
-        Found::Tag(tag) => value(tag as u64),
-        Found::None { stage, number } => 11 + value(stopped_at(stage, number)),
-        Found::Refused(why) => refused(why),
-    }
-}
-
-// n in the low byte of the value, the count from bit 8 on, the version from bit 24 on.
-pub fn header_told(answer: Header) -> u64
-    ensures { result ≡ packed (header_told answer) }
-{
-    match answer {
-        Header::Sheet { n, count, version } => {
-            value(n as u64 + BYTE * count as u64 + BYTE * BYTE * BYTE * version as u64)
-        }
-        Header::Refused(why) => refused(why),
-    }
-}
-
-pub fn ran(answer: Ran) -> u64
-    requires { (bytes : ℕ) → answer ≡ Ran.Printed bytes → bytes ≤ most_room }
-    ensures { result ≡ packed (ran_says answer) }
-{
-    match answer {
-        Ran::Printed(bytes) => value(bytes as u64),
-        Ran::Refused(why) => refused(why),
+        Ok(tag) => value(u64::from(tag)),
+        Err(NoRoute::NoClearPath { stage, number }) => 11 + value(stopped_at(stage, number)),
+        Err(NoRoute::Refused(why)) => refused(why),
     }
 }

@@ -1,7 +1,7 @@
 -- What a host reads off a packed answer, by a remainder and a quotient.
 use mathlib.Core.Path.{◌≡◌, refl}
 use mathlib.Core.List.{List, [], ◌∷◌}
-use Prim.Native.Nat.{ℕ, ◌/◌, ◌%◌, ◌≤◌, ◌<◌}
+use Prim.Native.Nat.{ℕ, ◌*◌, ◌/◌, ◌%◌, ◌≤◌, ◌<◌}
 use native.Mathlib.Omega.{arith}
 use Rattle.table.specs.declared.Refusal.{Refusal}
 use Rattle.table.specs.Numbers.{number_of}
@@ -20,6 +20,11 @@ one_value v = refl
 pub first_value_lowest : (v w : ℕ) (vs : List ℕ) → v < 256 → (value_of (v ∷ w ∷ vs) % 256 ≡ v) × (value_of (v ∷ w ∷ vs) / 256 ≡ value_of (w ∷ vs))
 first_value_lowest v w vs h = (omega arith, omega arith)
 
+-- an accepted call is packed as its value, above a low byte of 0
+pub accepted_packs : (vs : List ℕ) → packed (Reply.accepted vs) ≡ 256 * value_of vs
+accepted_packs [] = refl
+accepted_packs (v ∷ vs) = refl
+
 -- 0 and the value of an accepted call, or the table's number and its value
 pub accepted_unpacks : (vs : List ℕ) → (packed (Reply.accepted vs) % 256 ≡ 0) × (packed (Reply.accepted vs) / 256 ≡ value_of vs)
 accepted_unpacks [] = (refl, refl)
@@ -29,7 +34,7 @@ pub refused_unpacks : (k : ℕ) (vs : List ℕ) → k < 256 → (packed (Reply.r
 refused_unpacks k [] h = (omega arith, omega arith)
 refused_unpacks k (v ∷ vs) h = (omega arith, omega arith)
 
--- document 02, §2: of 11 with a stage and a notice's number, the low byte is 11, the next is the stage, and the bits from 16 on are the number
+-- docs/RULES.md, 'Through C': of 11 with a stage and a notice's number, the low byte is 11, the next is the stage, and the bits from 16 on are the number
 pub eleven_unpacks : (stage number : ℕ) → stage < 256
     → let r : ℕ = packed (Reply.refused_with 11 (stage ∷ number ∷ [])) in (r % 256 ≡ 11) × (r / 256 % 256 ≡ stage) × (r / 65536 ≡ number)
 eleven_unpacks stage number h = (omega arith, omega arith, omega arith)

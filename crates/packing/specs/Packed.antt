@@ -1,5 +1,5 @@
--- How an answer of document 01 crosses the border to C: one number. Its low byte is the table's number, 0 where the call was accepted; the
--- bits from 8 on are the value that comes with it.
+-- How an entry's answer crosses the border to C: one number. Its low byte is the table's number, 0 where the call was accepted; the bits
+-- from 8 on are the value that comes with it.
 use Rattle.std.specs.Prelude.{◌≡◌, List, [], ◌∷◌, ℕ, ◌+◌, ◌*◌}
 use Rattle.table.specs.Reply.{Reply}
 

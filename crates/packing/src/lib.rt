@@ -1,2 +1,2 @@
-// How an answer of document 01 crosses the border to C and Rust: one number.
+// How an entry's answer crosses the border to C and Rust: one number.
 #![tactic(auto)]

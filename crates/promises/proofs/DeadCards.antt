@@ -1,4 +1,7 @@
--- Document 02, §3: a dead card in column 0. While a notice of it stands, no route and no walk leaves its switch.
+-- docs/RULES.md, 'Notices': a dead card in column 0. While a notice of it stands, no route and no walk leaves its switch.
+use Rattle.std.specs.Prelude.{Ok, Err}
+use Rattle.routes.specs.declared.NoRoute.{NoRoute}
+use Rattle.walks.specs.declared.NotClear.{NotClear}
 use mathlib.Core.Path.{◌≡◌, refl, sym, ap, subst, ◌∙◌}
 use mathlib.Core.Bool.{true, false}
 use mathlib.Core.List.Memᴰ
@@ -36,11 +39,9 @@ use Rattle.book.proofs.Stoppers.{stopper_none}
 use Rattle.changes.specs.Runs.{Change, run, NotWithdrawn, StandsSince, NamesSince}
 use Rattle.changes.proofs.Reach.{good_sound}
 use Rattle.changes.proofs.Since.{stands_exactly}
-use Rattle.routes.specs.declared.Found.{Found}
-use Rattle.routes.specs.Routed.{Routed, route_checks, Routes}
+use Rattle.routes.specs.Routed.{Routed, route_checks, Routes, Found}
 use Rattle.routes.proofs.Entries.{route_lets_pass, route_passes}
-use Rattle.walks.specs.declared.Ended.{Ended}
-use Rattle.walks.specs.Entries.{Walked, Walks}
+use Rattle.walks.specs.Entries.{Walked, Walks, Ended}
 use Rattle.walks.proofs.Entries.{walk_lets_pass}
 use Rattle.walks.proofs.Promises.{walk_passes}
 use Rattle.promises.specs.Clearness.{StopsAWaySince}
@@ -125,13 +126,13 @@ module _ (n : ℕ) (legal : outside_sizes n ≡ false) (changes : List Change) (
         named : StageNamed n (counted_stops choice ran) s d 0
         named = record { none = none_leave d; least = λ k none. omega arith }
 
-        go : (a : Found) → Routed n (counted_stops choice ran) s d a → (k : ℕ) × Routes ran s d choice (Found.None 0 k) × LowestNumber (StopsAWayOut n choice changes s d) k
-        go (Found.Tag t) w = absurd (none_clear n (counted_stops choice ran) s d 0 some_stage (none_leave d) w.0 w.1.clear_path)
-        go (Found.None i k) w =
-            let first = subst (λ (z : ℕ). Routed n (counted_stops choice ran) s d (Found.None z k)) (stage_once n (counted_stops choice ran) s d i 0 w.1 named) w in
-            let routes = route_passes ran s d choice (Found.None 0 k) (asked d dest) (size_of (λ (m : ℕ). Routed m (counted_stops choice ran) s d (Found.None 0 k)) first) in
+        go : (a : Found) → Routed n (counted_stops choice ran) s d a → (k : ℕ) × Routes ran s d choice (Err (NoRoute.NoClearPath 0 k)) × LowestNumber (StopsAWayOut n choice changes s d) k
+        go (Ok t) w = absurd (none_clear n (counted_stops choice ran) s d 0 some_stage (none_leave d) w.0 w.1.clear_path)
+        go (Err (NoRoute.NoClearPath i k)) w =
+            let first = subst (λ (z : ℕ). Routed n (counted_stops choice ran) s d (Err (NoRoute.NoClearPath z k))) (stage_once n (counted_stops choice ran) s d i 0 w.1 named) w in
+            let routes = route_passes ran s d choice (Err (NoRoute.NoClearPath 0 k)) (asked d dest) (size_of (λ (m : ℕ). Routed m (counted_stops choice ran) s d (Err (NoRoute.NoClearPath 0 k))) first) in
             (k, routes, lowest_number_as (λ y. (ways_out n choice changes s d y).1) (λ y. (ways_out n choice changes s d y).0) (route_number_since n legal changes s d choice 0 k (asked d dest) routes))
-        go (Found.Refused r) w = absurd w
+        go (Err (NoRoute.Refused r)) w = absurd w
 
     -- the card's own notice stops a way out to every destination, so none of a higher number is named
     pub dead_card_counts : (d : ℕ) → StopsAWayOut n choice changes s d x
@@ -150,10 +151,10 @@ module _ (n : ℕ) (legal : outside_sizes n ≡ false) (changes : List Change) (
       let cs : List ℕ = steps_of n s tag in
       let c : ℕ = get_or cs 0 0 in
       let k : ℕ = stops_of ran 0 s c in
-      let stopped : Walked n (stops_of ran) s tag (Ended.Stopped 0 k) =
+      let stopped : Walked n (stops_of ran) s tag (Err (NotClear.Stopped 0 k)) =
       record { stage = some_stage; number = ap (λ (j : ℕ). stops_of ran 0 j c) (at_source n s cs); stopped = held c; before = λ m z. absurd (omega arith) } in
       let passed = (walk_lets_pass ran s tag).1 (good_sound n ran legal (good n legal changes), size_of (λ (m : ℕ). s < size m) label, size_of (λ (m : ℕ). tag < tags m) h) in
-      let walks : Walks ran s tag (Ended.Stopped 0 k) = walk_passes ran s tag (Ended.Stopped 0 k) passed (size_of (λ (m : ℕ). Walked m (stops_of ran) s tag (Ended.Stopped 0 k)) stopped) in
+      let walks : Walks ran s tag (Err (NotClear.Stopped 0 k)) = walk_passes ran s tag (Err (NotClear.Stopped 0 k)) passed (size_of (λ (m : ℕ). Walked m (stops_of ran) s tag (Err (NotClear.Stopped 0 k))) stopped) in
       (k, walks, subst (λ (j : ℕ). LowestNumber (NamesSince n changes 0 j c) k) (at_source n s cs) (walk_number_since n legal changes s tag 0 k passed walks))
 
 -- There is such a card: of switch 5, by notice 6, in a fabric of three stages. Its own number is named, whatever the destination and whatever the tag.
@@ -164,25 +165,25 @@ abbrev pub carded : List Change
 carded = Change.file card ∷ []
 
 pub some_dead_card : StandsSince (opened 3) carded card
-unfolding run NotWithdrawn some insert lowest misfiled littered in_places
+unfolding run NotWithdrawn insert misfiled in_places
 some_dead_card = record { before = []; later = []; order = refl; accepted = refl; kept = tt }
 
 card_alone : (y : Notice) → StandsSince (opened 3) carded y → y.number ≡ 6
-unfolding run some insert lowest misfiled littered in_places
+unfolding run insert misfiled in_places
 card_alone y since =
     ⊎_elim
     (λ e. ap (λ (z : Notice). z.number) e)
     (λ m. absurd (Memᴰ.not-nil m))
     (Memᴰ.cases_cons ((stands_exactly 3 carded y).1 since))
 
-pub card_named : (choice : ℕ) → choice ≤ 1 → (d : ℕ) → d < size 3 → Routes (run carded (opened 3)) 5 d choice (Found.None 0 6)
+pub card_named : (choice : ℕ) → choice ≤ 1 → (d : ℕ) → d < size 3 → Routes (run carded (opened 3)) 5 d choice (Err (NoRoute.NoClearPath 0 6))
 card_named choice few d dest =
     let w = dead_card 3 refl carded card some_dead_card 5 refl choice few (broken_always card choice refl) d dest in
     let lowest = w.2 in
-    subst (λ (k : ℕ). Routes (run carded (opened 3)) 5 d choice (Found.None 0 k)) (sym lowest.numbered ∙ card_alone lowest.notice lowest.among.0.0) w.1
+    subst (λ (k : ℕ). Routes (run carded (opened 3)) 5 d choice (Err (NoRoute.NoClearPath 0 k))) (sym lowest.numbered ∙ card_alone lowest.notice lowest.among.0.0) w.1
 
-pub card_walked : (tag : ℕ) → tag < tags 3 → Walks (run carded (opened 3)) 5 tag (Ended.Stopped 0 6)
+pub card_walked : (tag : ℕ) → tag < tags 3 → Walks (run carded (opened 3)) 5 tag (Err (NotClear.Stopped 0 6))
 card_walked tag h =
     let w = dead_card_walked 3 refl carded card some_dead_card 5 refl tag h in
     let lowest = w.2 in
-    subst (λ (k : ℕ). Walks (run carded (opened 3)) 5 tag (Ended.Stopped 0 k)) (sym lowest.numbered ∙ card_alone lowest.notice lowest.among.0) w.1
+    subst (λ (k : ℕ). Walks (run carded (opened 3)) 5 tag (Err (NotClear.Stopped 0 k))) (sym lowest.numbered ∙ card_alone lowest.notice lowest.among.0) w.1

@@ -8,28 +8,23 @@ use Prim.Native.Nat.{ℕ}
 use Rattle.notices.specs.declared.Notice.{Notice}
 use Rattle.book.specs.declared.Book.{Book}
 use Rattle.book.specs.declared.Kept.{Kept}
-use Rattle.questions.specs.declared.Link.{Link}
-use Rattle.questions.specs.declared.Listing.{Listing}
 use Rattle.book.specs.Entries.{opened, book_checks, Files, Withdraws}
-use Rattle.questions.specs.Entries.{Tests, Lists}
+use Rattle.questions.specs.Entries.{Tests, Lists, Link, Listing}
 use Rattle.changes.specs.Runs.{Change, run, AllAccepted, StandsSince}
 use Rattle.standing.specs.Rising.{Distinct, Reordered}
 use Rattle.standing.proofs.Distinct.{distinct_reordered}
 use Rattle.changes.proofs.Since.{same_book}
 use Rattle.book.proofs.Once.{files_once, withdraws_once}
 use Rattle.questions.proofs.Once.{tests_once, lists_once}
-use Rattle.written.specs.declared.Written.{Written}
-use Rattle.written.specs.Sheets.{Writes}
+use Rattle.written.specs.Sheets.{Written, Writes}
 use Rattle.written.proofs.Once.{writes_once}
-use Rattle.walks.specs.declared.Ended.{Ended}
-use Rattle.routes.specs.declared.Found.{Found}
-use Rattle.walks.specs.Entries.{Walks}
-use Rattle.routes.specs.Routed.{Routes}
+use Rattle.walks.specs.Entries.{Ended, Walks}
+use Rattle.routes.specs.Routed.{Routes, Found}
 use Rattle.walks.proofs.Entries.{walk_once}
 use Rattle.routes.proofs.Entries.{route_once}
 
--- "in any order": of a list of the notices accepted and not withdrawn since, none twice, any other order makes that book too.
--- `since_list` says that every run has such a list.
+-- "in whatever order": of a list of the notices accepted and not withdrawn since, none twice, any other order makes that book
+-- too. `since_list` says that every run has such a list.
 pub in_any_order : (n : ℕ) (changes : List Change) (l m : List Notice) → Distinct l → ((x : Notice) → Memᴰ x l ↔ StandsSince (opened n) changes x) → Reordered l m
     → (run (map Change.file m) (opened n) ≡ run changes (opened n)) × AllAccepted (map Change.file m) (opened n)
 in_any_order n changes l m apart these other =
@@ -65,6 +60,6 @@ module _ (n : ℕ) (changes : List Change) (l : List Notice) (apart : Distinct l
   pub walks_alike : (s tag : ℕ) (q r : Ended) → Walks ran s tag q → Walks new s tag r → q ≡ r
   walks_alike s tag q r p w = walk_once ran s tag q r p (subst (λ (b : Book). Walks b s tag r) same w)
 
-  -- "demand 3 holds for each choice"
+  -- "Demand 3 is kept under each choice of a route"
   pub routes_alike : (s d choice : ℕ) (q r : Found) → Routes ran s d choice q → Routes new s d choice r → q ≡ r
   routes_alike s d choice q r p w = route_once ran s d choice q r p (subst (λ (b : Book). Routes b s d choice r) same w)

@@ -1,4 +1,6 @@
 -- The thirteen examples: one test, computed over the whole table, and one law that turns it into the claim of each row.
+use Rattle.std.specs.Prelude.{Ok, Err, Some}
+use Rattle.routes.specs.declared.NoRoute.{NoRoute}
 use mathlib.Core.Path.{◌≡◌, refl, ap, ap₂, subst}
 use mathlib.Core.Bool.{Bool, true, false, not, ◌&&◌, false≢true}
 use mathlib.Core.List.{List, [], ◌∷◌, ◌++◌}
@@ -21,14 +23,12 @@ use Rattle.book.specs.declared.Book.{Book}
 use Rattle.book.specs.Standing.{standing, stopper, counted_stops}
 use Rattle.standing.specs.Picked.{some, lowest, those}
 use Rattle.standing.specs.Rising.{in_places, insert, misfiled, littered}
-use Rattle.questions.specs.declared.Link.{Link}
 use Rattle.book.specs.Entries.{opened}
-use Rattle.questions.specs.Entries.{link_checks, Tests}
+use Rattle.questions.specs.Entries.{link_checks, Tests, Link}
 use Rattle.changes.specs.Runs.{Change, change_checks, after, run, AllAccepted}
 use Rattle.changes.proofs.Changes.{taken}
 use Rattle.questions.proofs.Answers.{link_stopped}
-use Rattle.routes.specs.declared.Found.{Found}
-use Rattle.routes.specs.Routed.{Routed, route_checks, Routes}
+use Rattle.routes.specs.Routed.{Routed, route_checks, Routes, Found}
 use Rattle.routes.proofs.Entries.{route_passes}
 use Rattle.promises.specs.Examples.{Example, Claim, examples, AllHold, links}
 use Rattle.crossing.proofs.Least.{lesser_of}
@@ -58,23 +58,23 @@ same_list_equal (x ∷ xs) (y ∷ ys) e =
     let w = (both_hold (eqb x y) (same_list xs ys)).0 e in ap₂ (λ (a : ℕ) (b : List ℕ). a ∷ b) (eqb-true x y w.0) (same_list_equal xs ys w.1)
 
 same_found : Found → Found → Bool
-same_found (Found.Tag t) (Found.Tag u) = eqb t u
-same_found (Found.Tag t) (Found.None j m) = false
-same_found (Found.Tag t) (Found.Refused r) = false
-same_found (Found.None i k) (Found.Tag u) = false
-same_found (Found.None i k) (Found.None j m) = eqb i j && eqb k m
-same_found (Found.None i k) (Found.Refused r) = false
-same_found (Found.Refused q) b = false
+same_found (Ok t) (Ok u) = eqb t u
+same_found (Ok t) (Err (NoRoute.NoClearPath j m)) = false
+same_found (Ok t) (Err (NoRoute.Refused r)) = false
+same_found (Err (NoRoute.NoClearPath i k)) (Ok u) = false
+same_found (Err (NoRoute.NoClearPath i k)) (Err (NoRoute.NoClearPath j m)) = eqb i j && eqb k m
+same_found (Err (NoRoute.NoClearPath i k)) (Err (NoRoute.Refused r)) = false
+same_found (Err (NoRoute.Refused q)) b = false
 
 same_found_equal : (a b : Found) → same_found a b ≡ true → a ≡ b
 unfolding same_found
-same_found_equal (Found.Tag t) (Found.Tag u) e = ap Found.Tag (eqb-true t u e)
-same_found_equal (Found.Tag t) (Found.None j m) e = absurd (false≢true e)
-same_found_equal (Found.Tag t) (Found.Refused r) e = absurd (false≢true e)
-same_found_equal (Found.None i k) (Found.Tag u) e = absurd (false≢true e)
-same_found_equal (Found.None i k) (Found.None j m) e = let w = (both_hold (eqb i j) (eqb k m)).0 e in ap₂ Found.None (eqb-true i j w.0) (eqb-true k m w.1)
-same_found_equal (Found.None i k) (Found.Refused r) e = absurd (false≢true e)
-same_found_equal (Found.Refused q) b e = absurd (false≢true e)
+same_found_equal (Ok t) (Ok u) e = ap Ok (eqb-true t u e)
+same_found_equal (Ok t) (Err (NoRoute.NoClearPath j m)) e = absurd (false≢true e)
+same_found_equal (Ok t) (Err (NoRoute.Refused r)) e = absurd (false≢true e)
+same_found_equal (Err (NoRoute.NoClearPath i k)) (Ok u) e = absurd (false≢true e)
+same_found_equal (Err (NoRoute.NoClearPath i k)) (Err (NoRoute.NoClearPath j m)) e = let w = (both_hold (eqb i j) (eqb k m)).0 e in ap₂ (λ x y. Err (NoRoute.NoClearPath x y)) (eqb-true i j w.0) (eqb-true k m w.1)
+same_found_equal (Err (NoRoute.NoClearPath i k)) (Err (NoRoute.Refused r)) e = absurd (false≢true e)
+same_found_equal (Err (NoRoute.Refused q)) b e = absurd (false≢true e)
 
 -- whether every change of a run is accepted
 accepting : List Change → Book → Bool
@@ -111,7 +111,7 @@ routes_so b s d choice a e =
     (subst (Routed b.n (counted_stops choice b) s d) (same_found_equal (route_of b.n (counted_stops choice b) s d) a w.1)
     (route_of_routed b.n (counted_stops choice b) s d (leb-false (size b.n) s o.0) (leb-false (size b.n) d o.1)))
 
-stopped_so : (b : Book) (i j c k : ℕ) → stopping b i j c k ≡ true → Tests b i j c (Link.Stopped k)
+stopped_so : (b : Book) (i j c k : ℕ) → stopping b i j c k ≡ true → Tests b i j c (Ok (Some k))
 unfolding stopping
 stopped_so b i j c k e =
     let w = (both_hold (passing (link_checks b i j c)) (eqb k (stopper b.n (standing b) i j c) && not (eqb k 0))).0 e in
@@ -143,7 +143,7 @@ all_rows [] e = tt
 all_rows (x ∷ es) e = let w = (both_hold (test x) (every es)).0 e in (row x w.0, all_rows es w.1)
 
 tested : every examples ≡ true
-unfolding every test routing stopping accepting passing same_found same_list run lowest some in_places insert those misfiled littered ones steered states_of walked high through lesser advanced mirrored lesser_of answer_from
+unfolding every test routing stopping accepting passing same_found same_list run in_places insert misfiled ones steered states_of walked high through lesser advanced mirrored lesser_of answer_from
 tested = refl
 
 -- the thirteen examples
@@ -157,18 +157,18 @@ row_of [] all k e claim = claim
 row_of (x ∷ es) all zero e claim = all.0
 row_of (x ∷ es) all (suc k) e claim = row_of es all.1 k e claim
 
-pub row_holds : (k : ℕ) → Claim (get_or examples k (Example.route 3 [] 1 0 (Found.Tag 0)))
+pub row_holds : (k : ℕ) → Claim (get_or examples k (Example.route 3 [] 1 0 (Ok 0)))
 unfolding AllHold
-row_holds k = row_of examples examples_hold k (Example.route 3 [] 1 0 (Found.Tag 0)) examples_hold.0
+row_holds k = row_of examples examples_hold k (Example.route 3 [] 1 0 (Ok 0)) examples_hold.0
 
--- Document 02, §5: examples 1, 9 and 6 over broken notices only, which all of theirs are
+-- docs/RULES.md, 'Classes': examples 1, 9 and 6 over broken notices only, which all of theirs are
 pub broken_only_rows :
-    Routes (run [] (opened 3)) 1 0 1 (Found.Tag 0) × Routes (run [] (opened 1)) 0 1 1 (Found.Tag 1) × Routes (run (links 1 1 0 1 ∷ []) (opened 3)) 1 0 1 (Found.Tag 8)
-unfolding routing passing same_found run lowest some in_places insert those misfiled littered ones steered states_of walked high through lesser advanced mirrored lesser_of answer_from
+    Routes (run [] (opened 3)) 1 0 1 (Ok 0) × Routes (run [] (opened 1)) 0 1 1 (Ok 1) × Routes (run (links 1 1 0 1 ∷ []) (opened 3)) 1 0 1 (Ok 8)
+unfolding routing passing same_found run in_places insert misfiled ones steered states_of walked high through lesser advanced mirrored lesser_of answer_from
 broken_only_rows = (
-  routes_so (run [] (opened 3)) 1 0 1 (Found.Tag 0) refl,
-  routes_so (run [] (opened 1)) 0 1 1 (Found.Tag 1) refl,
-  routes_so (run (links 1 1 0 1 ∷ []) (opened 3)) 1 0 1 (Found.Tag 8) refl,
+  routes_so (run [] (opened 3)) 1 0 1 (Ok 0) refl,
+  routes_so (run [] (opened 1)) 0 1 1 (Ok 1) refl,
+  routes_so (run (links 1 1 0 1 ∷ []) (opened 3)) 1 0 1 (Ok 8) refl,
 )
 
 -- A filing of links that are only busy; and what a book after accepted changes answers with choice 0 and with choice 1
@@ -194,12 +194,12 @@ both_choices n changes s d all broken e =
 -- Example 2 with its notice busy, and example 5 with its third: over all notices they answer as before, over broken ones only as if it were not there. And two
 -- notices that stop the same links, the lower one busy: over broken ones only the number after `BY` is the other's.
 pub busy_is_not_broken :
-    BothChoices 3 (busied 1 0 1 4 ∷ []) 1 0 (Found.Tag 8) (Found.Tag 0)
-    × BothChoices 3 (links 1 0 1 4 ∷ links 2 1 2 4 ∷ busied 3 2 4 4 ∷ links 4 2 4 2 ∷ []) 1 0 (Found.None 2 3) (Found.Tag 24)
-    × BothChoices 1 (busied 1 0 0 6 ∷ links 2 0 0 6 ∷ []) 0 1 (Found.None 0 1) (Found.None 0 2)
-unfolding asked_twice routing accepting passing same_found run lowest some in_places insert those misfiled littered ones steered states_of walked high through lesser advanced mirrored lesser_of answer_from
+    BothChoices 3 (busied 1 0 1 4 ∷ []) 1 0 (Ok 8) (Ok 0)
+    × BothChoices 3 (links 1 0 1 4 ∷ links 2 1 2 4 ∷ busied 3 2 4 4 ∷ links 4 2 4 2 ∷ []) 1 0 (Err (NoRoute.NoClearPath 2 3)) (Ok 24)
+    × BothChoices 1 (busied 1 0 0 6 ∷ links 2 0 0 6 ∷ []) 0 1 (Err (NoRoute.NoClearPath 0 1)) (Err (NoRoute.NoClearPath 0 2))
+unfolding asked_twice routing accepting passing same_found run in_places insert misfiled ones steered states_of walked high through lesser advanced mirrored lesser_of answer_from
 busy_is_not_broken = (
-  both_choices 3 (busied 1 0 1 4 ∷ []) 1 0 (Found.Tag 8) (Found.Tag 0) refl,
-  both_choices 3 (links 1 0 1 4 ∷ links 2 1 2 4 ∷ busied 3 2 4 4 ∷ links 4 2 4 2 ∷ []) 1 0 (Found.None 2 3) (Found.Tag 24) refl,
-  both_choices 1 (busied 1 0 0 6 ∷ links 2 0 0 6 ∷ []) 0 1 (Found.None 0 1) (Found.None 0 2) refl,
+  both_choices 3 (busied 1 0 1 4 ∷ []) 1 0 (Ok 8) (Ok 0) refl,
+  both_choices 3 (links 1 0 1 4 ∷ links 2 1 2 4 ∷ busied 3 2 4 4 ∷ links 4 2 4 2 ∷ []) 1 0 (Err (NoRoute.NoClearPath 2 3)) (Ok 24) refl,
+  both_choices 1 (busied 1 0 0 6 ∷ links 2 0 0 6 ∷ []) 0 1 (Err (NoRoute.NoClearPath 0 1)) (Err (NoRoute.NoClearPath 0 2)) refl,
 )

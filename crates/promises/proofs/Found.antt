@@ -1,5 +1,7 @@
--- A route, computed: the frontier of column i, and the answer that it leads to. It is what 01 says, so it can stand for it
--- where an example is computed.
+-- A route, computed: the frontier of column i, and the answer that it leads to. It is what docs/RULES.md says, so it can
+-- stand for it where an example is computed.
+use Rattle.std.specs.Prelude.{Ok, Err}
+use Rattle.routes.specs.declared.NoRoute.{NoRoute}
 use mathlib.Core.Path.{◌≡◌, refl, sym, subst}
 use mathlib.Core.Bool.{Bool, true, false, cond}
 use mathlib.Core.List.{List}
@@ -18,8 +20,7 @@ use Rattle.frontier.specs.Stops.{stops_from}
 use Rattle.frontier.specs.Frontier.{start, lesser, advanced, mirrored}
 use Rattle.frontier.proofs.Places.{start_reached}
 use Rattle.frontier.proofs.Frontier.{Holds, looks_from, start_holds, advanced_holds}
-use Rattle.routes.specs.declared.Found.{Found}
-use Rattle.routes.specs.Routed.{Routed}
+use Rattle.routes.specs.Routed.{Routed, Found}
 use Rattle.frontier.specs.WaysOnward.{ways_onward}
 use Rattle.crossing.proofs.Routing.{none_ahead, found_ahead}
 use Rattle.crossing.proofs.Least.{least_on, stuck_number}
@@ -30,7 +31,7 @@ on_front n stops s d i f = advanced n (high_right n s d i) (bit i d) (stops_from
 
 -- on through a frontier that is reached; else stage and number are named
 abbrev through : ℕ → Front → (Front → Found) → ℕ → ℕ → Found
-through n g rest i number = cond (ltb (lesser g.high g.low) (size n)) (rest g) (Found.None i number)
+through n g rest i number = cond (ltb (lesser g.high g.low) (size n)) (rest g) (Err (NoRoute.NoClearPath i number))
 
 -- the lowest number that stops a way onward out of a frontier of column i
 abbrev number_from : ℕ → Rule → ℕ → ℕ → ℕ → Front → ℕ
@@ -38,7 +39,7 @@ number_from n stops s d i f = least_on stops n s d i (ways_onward n (high_right 
 
 -- the answer from a frontier of column i on, with so many stages left
 unfoldable pub answer_from : ℕ → Rule → ℕ → ℕ → ℕ → ℕ → Front → Found
-answer_from n stops s d zero i f = Found.Tag (d + size n * mirrored n (lesser f.high f.low))
+answer_from n stops s d zero i f = Ok (d + size n * mirrored n (lesser f.high f.low))
 answer_from n stops s d (suc left) i f = through n (on_front n stops s d i f) (λ g. answer_from n stops s d left (suc i) g) i (number_from n stops s d i f)
 
 abbrev pub route_of : ℕ → Rule → ℕ → ℕ → Found
@@ -65,10 +66,10 @@ module _ (n : ℕ) (stops : Rule) (s d : ℕ) (source : s < size n) (dest : d < 
       go : (b : Bool) → ltb (lesser g.high g.low) (size n) ≡ b
           → (lesser g.high g.low < size n → Routed n stops s d (answer_from n stops s d left (suc i) g))
           → Routed n stops s d (through n g (λ x. answer_from n stops s d left (suc i) x) i number)
-      go true r rest = subst (λ (b : Bool). Routed n stops s d (cond b (answer_from n stops s d left (suc i) g) (Found.None i number))) (sym r) (rest (ltb-true _ _ r))
+      go true r rest = subst (λ (b : Bool). Routed n stops s d (cond b (answer_from n stops s d left (suc i) g) (Err (NoRoute.NoClearPath i number)))) (sym r) (rest (ltb-true _ _ r))
       go false r rest =
           let next = subst (λ (k : ℕ). Holds n stops s d k g) (sym (add-one i)) (on_holds i (omega arith) f held) in
-          subst (λ (b : Bool). Routed n stops s d (cond b (answer_from n stops s d left (suc i) g) (Found.None i number))) (sym r)
+          subst (λ (b : Bool). Routed n stops s d (cond b (answer_from n stops s d left (suc i) g) (Err (NoRoute.NoClearPath i number)))) (sym r)
           (let stuck = none_ahead n stops s d source i (omega arith) (high_right n s d i) refl f g held alive next (ltb-false _ _ r) in
           (stuck.none, stuck.named, stuck_number n stops s d i _ stuck))
 
@@ -81,9 +82,9 @@ module _ (n : ℕ) (stops : Rule) (s d : ℕ) (source : s < size n) (dest : d < 
   none_named empty = go (route_of n stops s d) route_of_routed
     where
       go : (a : Found) → Routed n stops s d a → (i : ℕ) × (k : ℕ) × StageNamed n stops s d i × NumberNamed n stops s d i k
-      go (Found.Tag t) w = absurd (empty w.0 w.1.clear_path)
-      go (Found.None i k) w = (i, k, w.1, w.2)
-      go (Found.Refused r) w = absurd w
+      go (Ok t) w = absurd (empty w.0 w.1.clear_path)
+      go (Err (NoRoute.NoClearPath i k)) w = (i, k, w.1, w.2)
+      go (Err (NoRoute.Refused r)) w = absurd w
 
   -- and the stage that is named has its number
   pub number_exists : ((cs : List ℕ) → ClearPath n stops s d cs → ⊥) → (i : ℕ) → StageNamed n stops s d i → (k : ℕ) × NumberNamed n stops s d i k

@@ -1,5 +1,7 @@
 -- Each kind of controller that Worthless.antt excludes has one of that kind: what is excluded is not nothing. The idle controller says
 -- done to every change, keeps none, finds every link clear and answers 11 with stage 0 and number 1 to every route.
+use Rattle.std.specs.Prelude.{Ok, Err, None}
+use Rattle.routes.specs.declared.NoRoute.{NoRoute}
 use mathlib.Core.Path.{◌≡◌, refl, subst}
 use mathlib.Core.Bool.{true, false}
 use mathlib.Core.List.{List, [], ◌∷◌, ◌++◌}
@@ -12,12 +14,12 @@ use Rattle.notices.specs.declared.Notice.{Notice}
 use Rattle.notices.specs.declared.Target.TheVariants.{Links}
 use Rattle.notices.specs.Notices.{names}
 use Rattle.book.specs.declared.Book.{Book}
-use Rattle.table.specs.declared.Answer.{Answer}
-use Rattle.questions.specs.declared.Link.{Link}
+use Rattle.table.specs.Reply.{Answer}
+use Rattle.questions.specs.Entries.{Link}
 use Rattle.standing.specs.Picked.{lowest, those}
 use Rattle.book.specs.Entries.{opened}
 use Rattle.changes.specs.Runs.{Change, run}
-use Rattle.routes.specs.declared.Found.{Found}
+use Rattle.routes.specs.Routed.{Found}
 use Rattle.promises.specs.Controllers.{Controller, SaysElevenAlways, GivesTagZeroAlways, InventsAStage, RefusesEveryFiling, LooksOnlyWhereItStands, GivesUp, NeverWithdrawn, Holds, Named, FilesNothing, StoresTheFirstOnly, OpensForBoth, PlusAndMinusOneLink}
 use Rattle.promises.proofs.Examples.{row_holds}
 use Rattle.promises.proofs.Worthless.{empty, tag_passed}
@@ -28,12 +30,12 @@ answering answer =
       opens = opened;
       answers = λ a b. answer;
       leaves = λ a b. b;
-      link = λ b i j c. Link.Clear;
-      route = λ b s d choice. Found.None 0 1;
+      link = λ b i j c. (Ok None);
+      route = λ b s d choice. Err (NoRoute.NoClearPath 0 1);
     }
 
 abbrev idle : Controller Book
-idle = answering Answer.Done
+idle = answering (Ok tt)
 
 pub some_says_eleven_always : (choice : ℕ) → SaysElevenAlways idle choice
 some_says_eleven_always choice b s d p = (0, 1, refl)
@@ -42,7 +44,7 @@ pub some_gives_tag_zero_always : (choice : ℕ) → GivesTagZeroAlways idle choi
 some_gives_tag_zero_always choice b s d t e = absurd (zero_one cc)
 
 pub some_invents_a_stage : InventsAStage idle
-unfolding run lowest those walked
+unfolding run walked
 some_invents_a_stage =
     record {
       book = empty;
@@ -55,7 +57,7 @@ some_invents_a_stage =
       invented = λ w. w.none (2 ∷ []) (record { links = refl; codes = (omega arith, tt); clear = λ k h. refl; agrees = refl });
     }
 
-pub some_refuses_every_filing : RefusesEveryFiling (answering (Answer.Refused Refusal.Full))
+pub some_refuses_every_filing : RefusesEveryFiling (answering (Err Refusal.Full))
 some_refuses_every_filing b x = (Refusal.Full, refl)
 
 pub some_looks_only_where_it_stands : (choice : ℕ) → LooksOnlyWhereItStands idle choice

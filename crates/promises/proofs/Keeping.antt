@@ -1,5 +1,7 @@
 -- Some controller meets every demand by which Worthless.antt excludes one, so that what is proved of every such controller is proved of
 -- one at least. It is computed: the checks decide, and past them the book, the lowest notice or the frontier.
+use Rattle.std.specs.Prelude.{Ok, Err, Some, None}
+use Rattle.routes.specs.declared.NoRoute.{NoRoute}
 use mathlib.Core.Path.{◌≡◌, refl, sym, ap, subst, ◌∙◌}
 use mathlib.Core.Bool.{Bool, true, false, cond}
 use mathlib.Core.List.{List, [], ◌∷◌}
@@ -8,7 +10,7 @@ use Prim.Native.Nat.{ℕ}
 use borrow.Author.Tests.{leb-false}
 use Rattle.table.specs.declared.Refusal.{Refusal}
 use Rattle.table.specs.Numbers.{number_of}
-use Rattle.table.specs.Reply.{Reply, refused, answer_says}
+use Rattle.table.specs.Reply.{Reply, refused, answer_says, Answer}
 use Rattle.table.specs.Checks.{Check, checked, Given, Given.here, Given.later, ◌not_below◌}
 use Rattle.table.proofs.Numbers.{by_number}
 use Rattle.table.proofs.Checks.{given_refuses, given_or_passed, passed_accepts, passed_nth, neither}
@@ -17,18 +19,15 @@ use Rattle.notices.specs.declared.Notice.{Notice}
 use Rattle.standing.specs.Picked.{LowestNumber}
 use Rattle.standing.proofs.Lowest.{lowest_number_as}
 use Rattle.book.specs.declared.Book.{Book}
-use Rattle.table.specs.declared.Answer.{Answer}
-use Rattle.questions.specs.declared.Link.{Link}
 use Rattle.book.specs.Standing.{standing, stopper, counted_stops}
 use Rattle.questions.proofs.Testing.{answered as by_stopper, answers_tests}
 use Rattle.questions.proofs.Answers.{link_refused}
 use Rattle.book.specs.Entries.{opened, file_checks, withdraw_checks}
-use Rattle.questions.specs.Entries.{link_checks, Tests}
+use Rattle.questions.specs.Entries.{link_checks, Tests, Link}
 use Rattle.changes.specs.Runs.{Change, change_checks, answer, after, Accepted, run, NotWithdrawn, StandsSince, NamesSince}
 use Rattle.table.proofs.Answers.{answer_tells}
 use Rattle.changes.proofs.Since.{link_exactly}
-use Rattle.routes.specs.declared.Found.{Found}
-use Rattle.routes.specs.Routed.{route_says, Routed, route_checks, Routes}
+use Rattle.routes.specs.Routed.{route_says, Routed, route_checks, Routes, Found}
 use Rattle.promises.specs.Controllers.{Controller, FilesAsPromised, RoutesAsPromised, Accepts, own_run, NeverWithdrawn, Holds, NamesLink, Named, StopsWhatIsNamed}
 use Rattle.promises.proofs.Found.{route_of, route_of_routed}
 
@@ -54,7 +53,7 @@ module _ {A : Type 0} (says : A → Reply) (no : Refusal → A) (numbered : (r :
       go false rest = rest
 
 abbrev answered : List Check → Answer
-answered cs = checked cs (λ k. Answer.Refused (by_number k)) Answer.Done
+answered cs = checked cs (λ k. Err (by_number k)) (Ok tt)
 
 -- what the link test says past its checks
 abbrev told : Book → ℕ → ℕ → ℕ → Link
@@ -66,15 +65,15 @@ ours =
       opens = opened;
       answers = λ a b. answered (change_checks a b);
       leaves = after;
-      link = λ b i j c. checked (link_checks b i j c) (λ k. Link.Refused (by_number k)) (told b i j c);
-      route = λ b s d choice. checked (route_checks b s d choice) (λ k. Found.Refused (by_number k)) (route_of b.n (counted_stops choice b) s d);
+      link = λ b i j c. checked (link_checks b i j c) (λ k. Err (by_number k)) (told b i j c);
+      route = λ b s d choice. checked (route_checks b s d choice) (λ k. Err (NoRoute.Refused (by_number k))) (route_of b.n (counted_stops choice b) s d);
     }
 
 routes_so : (b : Book) (s d choice : ℕ) → Routes b s d choice (ours.route b s d choice)
 routes_so b s d choice =
     let cs : List Check = route_checks b s d choice in
     let answer : Found = route_of b.n (counted_stops choice b) s d in
-    let no : ℕ → Found = λ k. Found.Refused (by_number k) in
+    let no : ℕ → Found = λ k. Err (NoRoute.Refused (by_number k)) in
     record {
       refuses = λ k g. ap route_says (given_refuses no answer k cs g) ∙ ap refused (known_given cs (refl, (refl, (refl, tt))) g);
       routes = λ p.
@@ -85,13 +84,13 @@ routes_so b s d choice =
 
 change_says : (a : Change) (b : Book) → answer_says (answered (change_checks a b)) ≡ answer a b
 change_says (Change.file x) b =
-    says_checked answer_says Answer.Refused (λ r. refl) Answer.Done (file_checks b x) (refl, (refl, (refl, (refl, (refl, (refl, (refl, tt)))))))
-change_says (Change.withdraw k) b = says_checked answer_says Answer.Refused (λ r. refl) Answer.Done (withdraw_checks b k) (refl, (refl, (refl, tt)))
+    says_checked answer_says Err (λ r. refl) (Ok tt) (file_checks b x) (refl, (refl, (refl, (refl, (refl, (refl, (refl, tt)))))))
+change_says (Change.withdraw k) b = says_checked answer_says Err (λ r. refl) (Ok tt) (withdraw_checks b k) (refl, (refl, (refl, tt)))
 
 tests_so : (b : Book) (i j c : ℕ) → Tests b i j c (ours.link b i j c)
 tests_so b i j c =
     let cs : List Check = link_checks b i j c in
-    let no : ℕ → Link = λ k. Link.Refused (by_number k) in
+    let no : ℕ → Link = λ k. Err (by_number k) in
     ⊎_elim
     (λ g.
     let why : Refusal = by_number g.0 in
@@ -102,7 +101,7 @@ tests_so b i j c =
 
 -- its own runs are those of demand 3: what it accepts is what the entries accept
 accepts_so : (a : Change) (b : Book) → Accepts ours a b ↔ Accepted a b
-accepts_so a b = ((λ e. sym (change_says a b) ∙ ap answer_says e), (λ e. answer_tells (ours.answers a b) Answer.Done (change_says a b ∙ e)))
+accepts_so a b = ((λ e. sym (change_says a b) ∙ ap answer_says e), (λ e. answer_tells (ours.answers a b) (Ok tt) (change_says a b ∙ e)))
 
 runs_so : (changes : List Change) (b : Book) → own_run ours changes b ≡ run changes b
 unfolding own_run run
@@ -150,8 +149,8 @@ stops_so : StopsWhatIsNamed ours
 stops_so n legal changes i j c link =
     subst
     (λ (b : Book).
-    ((ours.link b i j c ≡ Link.Clear) × (Named ours n changes i j c → ⊥))
-    ⊎ ((k : ℕ) × (ours.link b i j c ≡ Link.Stopped k) × LowestNumber (NamesLink ours n changes i j c) k))
+    ((ours.link b i j c ≡ Ok None) × (Named ours n changes i j c → ⊥))
+    ⊎ ((k : ℕ) × (ours.link b i j c ≡ Ok (Some k)) × LowestNumber (NamesLink ours n changes i j c) k))
     (sym (runs_so changes (opened n)))
     (⊎_elim
     (λ w. inl (w.0, λ v. w.1 (v.0, (names_so n changes i j c v.0).0 v.1)))

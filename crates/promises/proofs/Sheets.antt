@@ -15,7 +15,7 @@ use Rattle.sheet.specs.Entries.{part_of}
 use Rattle.printed.specs.Lines.{LineAt}
 use Rattle.printed.proofs.LineOnce.{line_at_once}
 
--- "The run of a sheet is such a run": `After` has its changes. The new book of the notices that stand since is the same book, and so is the next line.
+-- "A sheet that is run makes such a run too": `After` has its changes. The new book of the notices that stand since is the same book, and so is the next line.
 module _ (n : ℕ) (sheet : List ℕ) (k : ℕ) (b : Book) (made : After sheet n k b) (l : List Notice) (apart : Distinct l)
     (these : (x : Notice) → Memᴰ x l ↔ StandsSince (opened n) made.changes x) where
   abbrev new : Book

@@ -1,12 +1,13 @@
 -- How wide two of the excluded kinds are, whatever a controller's link test says: filings that leave the book as it was change no link, and plus and minus
 -- that test alike are one link.
+use Rattle.std.specs.Prelude.{Ok, None}
 use mathlib.Core.Path.{◌≡◌, sym, ◌∙◌}
 use mathlib.Core.Bool.{false}
 use mathlib.Core.List.{List}
 use mathlib.Core.Logic.{◌↔◌}
 use Prim.Native.Nat.{ℕ, suc, ◌<◌}
 use Rattle.fabric.specs.Labels.{size, outside_sizes}
-use Rattle.questions.specs.declared.Link.{Link}
+use Rattle.questions.specs.Entries.{Link}
 use Rattle.changes.specs.Runs.{Change}
 use Rattle.promises.specs.Controllers.{Controller, Named, SameLinks, PlusAndMinusOneLink}
 
@@ -35,5 +36,5 @@ module _ {B : Type 0} (c : Controller B) where
       }
 
   -- and of one link, each is clear where the other is
-  pub one_link_alike : (w : PlusAndMinusOneLink c) (b : B) (j : ℕ) → (c.link b w.last j 2 ≡ Link.Clear) ↔ (c.link b w.last j 1 ≡ Link.Clear)
+  pub one_link_alike : (w : PlusAndMinusOneLink c) (b : B) (j : ℕ) → (c.link b w.last j 2 ≡ Ok None) ↔ (c.link b w.last j 1 ≡ Ok None)
   one_link_alike w b j = ((w.one b j).1, (w.one b j).0)

@@ -17,8 +17,9 @@ abbrev pub UnnamedSince : ℕ → ℕ → List Change → ℕ → List ℕ → T
 UnnamedSince n choice changes s cs =
     (k : ℕ) → k < length cs → (x : Notice) → CountsSince n choice changes x → names n x k (switch_at n s cs k) (get_or cs k 0) ≡ true → ⊥
 
--- Document 02, §2, "Demand 3 covers the new number", and §5, "demand 3 holds for each choice": such a notice stops a way onward at stage i, from a switch
--- that a walk reaches of which no such notice names a link. `route_number_since` (proofs/Numbers.antt) says that a route names the lowest number of one.
+-- docs/RULES.md, 'What the user demands': "Demand 3 holds of the numbers of notices in the answers as well", and "Demand 3 is kept under each choice of a
+-- route": such a notice stops a way onward at stage i, from a switch that a walk reaches of which no such notice names a link. `route_number_since`
+-- (proofs/Numbers.antt) says that a route names the lowest number of one.
 abbrev pub StopsAWaySince : ℕ → ℕ → List Change → ℕ → ℕ → ℕ → Notice → Type 0
 StopsAWaySince n choice changes s d i x =
     CountsSince n choice changes x × ((j : ℕ) × (c : ℕ) × WayBy (UnnamedSince n choice changes s) n s d i j c × (names n x i j c ≡ true))

@@ -1,2 +1,2 @@
-// What document 01 asks of the base as a whole: theorems over the entries of tags, book, walks, router and printed. There is no code here.
+// What docs/RULES.md asks as a whole: theorems over the entries of tags, book, walks, router and printed. There is no code here.
 #![tactic(auto)]

@@ -5,10 +5,10 @@ use mathlib.Core.Path.{sym, ap, ap₂, ◌∙◌}
 use Prim.Native.Nat.{ℕ, ◌+◌, ◌*◌}
 use Rattle.face.proofs.tabashfar_action_part.Goals as goal
 
-pub returns-in-Done : goal.returns-in-Done
-returns-in-Done c =
+pub returns-in-Ok : goal.returns-in-Ok
+returns-in-Ok c =
     let h = c.has_action.ensures in
-    let e = c.in-Done.is in
+    let e = c.in-Ok.is in
     let a = c.args in
     let each = c.each_in-each.ensures.0 in
     ap (λ (m : ℕ). m + 256 * (8 + m * a.k)) each ∙ ap₂ (λ (x y : ℕ). x + 256 * y) (sym (part_is_each a.sheet.now a.k (rw e at h))) (start_there h e)
