@@ -1,5 +1,5 @@
-//! Asks for the same million links by the proved link test, in one pass and as it was before document 02, §4, and by a plain one, sees that all agree,
-//! and prints the times; and what stops the three links of a switch, by one pass and by three.
+//! Asks for the same million links by the proved link test, in one pass and as it was before, and by a plain one, sees that all agree, and prints the
+//! times; and what stops the three links of a switch, by one pass and by three.
 mod blocks;
 #[allow(dead_code)] // the links need its notices alone
 mod plain;

@@ -1,6 +1,6 @@
-//! A router in plain Rust, written for speed from documents 01 and 02 (§2, §3, §5) alone and sharing nothing with the proved one. As the proved
-//! router does, it answers each question from the list of notices and keeps nothing between two questions. `route` tests no book, `judged`
-//! tests the one that it is given, as 01's number 16 asks, in the same pass over its notices.
+//! A router in plain Rust, written for speed from docs/RULES.md alone and sharing nothing with the proved one. As the proved router does, it
+//! answers each question from the list of notices and keeps nothing between two questions. `route` tests no book, `judged` tests the one that
+//! it is given, as number 16 asks, in the same pass over its notices.
 //!
 //! The switches of column i that can lie on a path from s to d agree with d in their low i bits, and lie less than 2^i away
 //! from s on either side. There are two: the bit i of one is right, and it goes straight; the other one forks. So a notice is

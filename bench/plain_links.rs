@@ -1,5 +1,5 @@
-//! The link test in plain Rust, written for speed from documents 01 and 02 alone and sharing nothing with the proved one. Like that one it judges the
-//! book that it is given, as 01's number 16 asks, with every question.
+//! The link test in plain Rust, written for speed from docs/RULES.md alone and sharing nothing with the proved one. Like that one it judges the book
+//! that it is given, as number 16 asks, with every question.
 //! All notices count, whatever their class.
 use crate::plain::{is_nothing, Book, Target, PLACES};
 

@@ -1,5 +1,5 @@
 //! A runner of sheets in plain Rust, written for speed. It shares no code with the proved one; its checks follow the definitions in
-//! specs/, so that it is a measure of cost and no second reading of document 01.
+//! specs/, so that it is a measure of cost and no second reading of docs/RULES.md.
 use crate::plain::{route, Answer, Notice, Target, PLACES};
 
 /// The notices that stand, by rising number.

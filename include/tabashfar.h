@@ -1,4 +1,4 @@
-/* Tabashfar for C: the entries of document 01, and of document 02's §1 to §5, over numbers and byte slices.
+/* Tabashfar for C: the entries of docs/RULES.md, over numbers and byte slices.
  *
  * A slice is two arguments, where its bytes start and how many there are. The bytes of a `const` slice are only read. Of lent memory
  * (`memory`, `answers`) exactly what is said at the function is written, and nothing where the call is refused. A slice may be empty; its pointer
@@ -9,8 +9,8 @@
  * memcpy and memset alone. A call uses less than 10 KiB of stack, the C library's part not counted: trials/stack.c fills a stack with a
  * pattern, makes each call on it, over a sheet of 60 actions of either version, and looks how far the pattern is gone.
  *
- * AN ANSWER is one number. Its low byte is the number of document 01's table, 0 where the call was accepted; the bits from 8 on are the
- * value that comes with it, 0 where the line below names none:
+ * AN ANSWER is one number. Its low byte is the table's number, 0 where the call was accepted; the bits from 8 on are the value that
+ * comes with it, 0 where the line below names none:
  *
  *     tabashfar_number(answer)   0, or the table's number
  *     tabashfar_value(answer)    the value; at number 11 the stage in its low byte, and from its bit 8 on the number of a notice:
@@ -36,9 +36,9 @@
  * bytes have room for the sheet of every book; where the memory is shorter than the sheet that would be written, 13 comes after the other numbers.
  * A change that is refused writes nothing, so the book is still the sheet that was handed over.
  *
- * THE LIFE OF A BOOK, with the notices of document 01's example. Two slices of one call do not overlap, so a host has two memories: the book
- * lies in one, and the other is lent to the next change. After an accepted change they have swapped. A book is closed by doing nothing
- * more. trials/hosts compiles and runs this text:
+ * THE LIFE OF A BOOK, with the notices of the worked example. Two slices of one call do not overlap, so a host has two memories: the book
+ * lies in one, and the other is lent to the next change. After an accepted change they have swapped. A book is closed by doing nothing more.
+ * trials/hosts compiles and runs this text:
  *
  *     #include <assert.h>
  *     #include "tabashfar.h"
@@ -172,7 +172,7 @@ uint64_t tabashfar_action_part(const uint8_t *sheet, size_t sheet_len, size_t k)
  * withdrawal. Value: 1 files, 2 withdraws, 3 routes. */
 uint64_t tabashfar_read_action(const uint8_t *part, size_t part_len);
 
-/* The fields of an action, in document 01's order, and the class: where each stands in the memory of tabashfar_action_fields. */
+/* The fields of an action, in the order of docs/RULES.md, and the class: where each stands in the memory of tabashfar_action_fields. */
 enum {
     TABASHFAR_ACTION, /* 1 files, 2 withdraws, 3 routes */
     TABASHFAR_NUMBER,

@@ -1,6 +1,5 @@
-//! Tabashfar for Rust: the entries of document 01, and of document 02's §1 to §5, over slices, safe to call, as a module of a program of
-//! edition 2018 or later. The static library of the crate `face` is linked beside it; tabashfar.h says what each entry writes and answers,
-//! and what linking needs.
+//! Tabashfar for Rust: the entries of docs/RULES.md, over slices, safe to call, as a module of a program of edition 2018 or later. The
+//! static library of the crate `face` is linked beside it; tabashfar.h says what each entry writes and answers, and what linking needs.
 //!
 //! A book is held by the program, as a sheet. A change writes the sheet of the book after it into lent memory and hands it back as
 //! a part of that memory.
@@ -77,7 +76,7 @@ mod raw {
     }
 }
 
-/// A number of document 01's table. At 11 the stage comes with it and the number of a notice; otherwise both are 0.
+/// A number of the table. At 11 the stage comes with it and the number of a notice; otherwise both are 0.
 #[derive(Clone, Copy, PartialEq, Eq, Debug)]
 pub struct Refused {
     pub number: u8,
@@ -223,7 +222,7 @@ pub fn read_action(part: &[u8]) -> Result<u8, Refused> {
     unpacked(unsafe { raw::tabashfar_read_action(part.as_ptr(), part.len()) }).map(|action| action as u8)
 }
 
-/// The eight fields of an action, in document 01's order and the class last, at the front of the memory; the answer is that of `read_action`.
+/// The eight fields of an action, in the order of docs/RULES.md and the class last, at the front of the memory; the answer is that of `read_action`.
 pub fn action_fields(part: &[u8], memory: &mut [u16]) -> Result<u8, Refused> {
     let answer = unsafe { raw::tabashfar_action_fields(part.as_ptr(), part.len(), memory.as_mut_ptr(), memory.len()) };
     unpacked(answer).map(|action| action as u8)

@@ -1,5 +1,5 @@
-//! Busy is not broken, document 02's §5: where a class or a choice is refused, which sheets of the two versions are one, and what a route over the
-//! broken notices only answers beside one over a book that has no others.
+//! docs/RULES.md, 'Classes': where a class or a choice is refused, which sheets of the two versions are one, and what a route over the broken
+//! notices only answers beside one over a book that has no others.
 
 use crate::cases::{every_pair, links, one_by_one};
 use crate::compared::Compared;
@@ -22,7 +22,8 @@ pub fn random(compared: &mut Compared, draw: &mut Draw) {
     lengths_of_both(compared, draw);
 }
 
-/// Filings with every set of faults, over a book with room and over a full one: "file: 16, 3, 4, 5, 6, 7, 8", a class above 1 "where 5 stands now".
+/// Filings with every set of faults, over a book with room and over a full one: "File (book, notice): 16, 3, 4, 5, 6, 7, 8", a class above 1 "where the set and
+/// the mask are judged".
 fn orders_of_refusals(compared: &mut Compared) {
     let standing = |number: u16| {
         let target = Target::Switch { column: 0, switch: number % 8 };
@@ -84,7 +85,7 @@ fn with_classes(mut rows: Vec<Row>, classes: &[u8]) -> Vec<Row> {
 }
 
 /// A sheet of version 1 and that of version 2 with class 0 everywhere: they print the same, and every entry over them answers the same.
-/// "Version 1 sheets still read, every notice broken and every route over all."
+/// "Sheets of version 1 are still run. Each notice of theirs is broken, and each route counts all."
 fn versions_alike(compared: &mut Compared, draw: &mut Draw) {
     let n = draw.size();
     let near = draw.near(n);

@@ -41,7 +41,7 @@ fn example() -> Told {
     sheet("01's example, every class 0: the lines of version 1", 3, example_acts())
 }
 
-/// 01's example with its last filing busy: the way that it stops is clear where broken notices alone count.
+/// The worked example with its last filing busy: the way that it stops is clear where broken notices alone count.
 fn busy_example() -> Told {
     let mut acts = example_acts();
     acts[7] = busy(switch(10, 1, 2));

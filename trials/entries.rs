@@ -1,5 +1,4 @@
-//! Every entry of documents 01 and 02, once by the proved library and once by the model: what it answers, and each place of the memory lent to
-//! it.
+//! Every entry of docs/RULES.md, once by the proved library and once by the model: what it answers, and each place of the memory lent to it.
 
 use crate::compared::Compared;
 use crate::face::{self, Refused};
@@ -164,7 +163,8 @@ pub fn action_at(compared: &mut Compared, sheet: &[u8], k: usize) {
     compared.same("action part", place(face::action_part(sheet, k)), place(model::action_part(sheet, k)), case);
 }
 
-/// "action 8 bits, number 16, kind 8, stage 8, switch 16, mask 16, set 8", and "class last", as the model's action has them.
+/// "the action in one byte, the number in two, the kind in one, the stage in one, the switch in two, the mask in two, the set in one", and "the class at the
+/// end", as the model's action has them.
 fn fields_of(action: Action) -> [u16; 8] {
     match action {
         Action::File(Notice { number, target, class }) => match target {

@@ -1,4 +1,4 @@
-/* Calls every function of include/tabashfar.h from C, on document 01's fabric of three stages. */
+/* Calls every function of include/tabashfar.h from C, on the worked example's fabric of three stages. */
 #include "../include/tabashfar.h"
 
 #include <stdio.h>

@@ -1,4 +1,4 @@
-//! A host in Rust, as README's link line builds it: calls every entry of include/tabashfar.rs, on document 01's fabric of three stages.
+//! A host in Rust, as README's link line builds it: calls every entry of include/tabashfar.rs, on the worked example's fabric of three stages.
 
 #[path = "../include/tabashfar.rs"]
 mod tabashfar;

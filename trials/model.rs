@@ -1,37 +1,37 @@
-//! A reference model of document 01 ("What the build covers, and its rules") and of document 02's §1 to §5, by the most obvious means.
-//! Sentences in quotation marks are the documents' own. It was written from the documents alone, without sight of the proved code.
+//! A reference model of docs/RULES.md, by the most obvious means. Sentences in quotation marks stand there. It was written from the
+//! rules alone, without sight of the proved code.
 #![allow(dead_code)]
 
 use std::collections::BTreeSet;
 
-/// "straight (code 0)"
+/// "Straight has code 0"
 const STRAIGHT: u8 = 0;
-/// "plus (code 1)"
+/// "Plus has code 1"
 const PLUS: u8 = 1;
-/// "minus (code 2)"
+/// "Minus has code 2"
 const MINUS: u8 = 2;
 
-/// "At most 48 notices stand at once."
+/// "A book has room for 48 notices standing together."
 const MOST_NOTICES: usize = 48;
-/// "action count above 4,096"
+/// "a count of more than 4,096 actions"
 const MOST_ACTIONS: u16 = 4096;
-/// "Header: the bytes `FSH`, version 1 (16 bits), n (8), action count (16)."
+/// "A sheet begins with a header of eight bytes: the letters FSH, the version in two bytes, n in one, and the count of actions in two."
 const HEADER_LENGTH: usize = 8;
-/// "Then ten bytes an action"
+/// "An action has ten bytes in version 1"
 const ACTION_LENGTH: usize = 10;
-/// 02, §5: "The sheet goes to version 2: eleven bytes an action, class last."
+/// docs/RULES.md, 'The sheet': "In version 2 it has eleven, the class at the end."
 const CLASSED_LENGTH: usize = 11;
 
-/// 02, §5: "Each notice gets a class, 0 broken or 1 busy"
+/// docs/RULES.md, 'Classes': "The class of a notice is 0, broken, or 1, busy"
 pub const BROKEN: u8 = 0;
-/// 02, §5: "0 broken or 1 busy"
+/// docs/RULES.md, 'Classes': "0, broken, or 1, busy"
 pub const BUSY: u8 = 1;
-/// 02, §5: "For a route, class 0 there means all notices count"
+/// docs/RULES.md, 'Classes': "Where a filing has its class a route has its choice: 0, and all notices count"
 pub const ALL: u8 = 0;
-/// 02, §5: "and 1 means broken only"
+/// docs/RULES.md, 'Classes': "1, and the broken ones alone do"
 pub const BROKEN_ONLY: u8 = 1;
 
-/// "A notice has a number, 1 to 65535, and one of three targets"
+/// "A notice has a number from 1 to 65535, a target of one of three kinds, and a class"
 #[derive(Clone, Copy, PartialEq, Eq, Debug)]
 pub enum Target {
     Links { stage: u8, switch: u16, set: u8 },
@@ -39,7 +39,8 @@ pub enum Target {
     Pattern { stage: u8, value: u16, mask: u16, set: u8 },
 }
 
-/// "A notice has a number, 1 to 65535, and one of three targets"; 02, §5: "Each notice gets a class, 0 broken or 1 busy"
+/// "A notice has a number from 1 to 65535, a target of one of three kinds, and a class"; docs/RULES.md, 'Classes': "The class of a notice is 0, broken, or 1,
+/// busy"
 #[derive(Clone, Copy, PartialEq, Eq, Debug)]
 pub struct Notice {
     pub number: u16,
@@ -47,22 +48,22 @@ pub struct Notice {
     pub class: u8,
 }
 
-/// "a book of notices": the size n and the standing notices, kept by rising number.
+/// "A book has room for 48 notices": the size n and the standing notices, kept by rising number.
 #[derive(Clone, PartialEq, Eq, Debug)]
 pub struct Book {
     n: u8,
     notices: Vec<Notice>,
 }
 
-/// What comes with 11: "no clear path, with the stage; or, in a walk, the first stage whose link is stopped", and 02, §2's number of a
-/// notice.
+/// What comes with 11: "no path is clear, with the stage named and a notice's number; for a walk, the first stage at which it meets a
+/// stopped link", and the number of a notice.
 #[derive(Clone, Copy, PartialEq, Eq, Debug)]
 pub struct Stopped {
     pub stage: u8,
     pub notice: u16,
 }
 
-/// "Action 1 files", "Action 2 withdraws", "Action 3 routes"; 02, §5: "a route may ask for all classes or broken only".
+/// "Action 1 is a filing", "Action 2 is a withdrawal", "Action 3 is a route"; docs/RULES.md, 'Classes': "all notices count, or the broken ones alone".
 #[derive(Clone, Copy, PartialEq, Eq, Debug)]
 pub enum Action {
     File(Notice),
@@ -74,38 +75,38 @@ pub enum Action {
 // Fabric. The private functions below are called only after n was found to be 1 to 12 and labels below N.
 // ---------------------------------------------------------------------------------------------------------
 
-/// "n outside 1 to 12"
+/// "n is 0 or above 12"
 fn size_is_outside(n: u8) -> bool {
     n < 1 || n > 12
 }
 
-/// "N = 2^n labels"
+/// "Its size N is 2^n"
 fn labels(n: u8) -> u32 {
     2u32.pow(u32::from(n))
 }
 
-/// "columns 0 to n hold switches 0 to N-1"
+/// "Switches stand in columns, numbered from 0 to n, and every column has one switch for each label"
 fn is_label(n: u8, label: u16) -> bool {
     u32::from(label) < labels(n)
 }
 
-/// "All labels are reduced modulo N, below zero as well as above."
+/// "Every label is taken modulo N, whether it falls below 0 or reaches N."
 fn reduced(n: u8, number: i32) -> u16 {
     number.rem_euclid(labels(n) as i32) as u16
 }
 
-/// "plus (code 1) to j + 2^i"
+/// "Plus has code 1 and lands on j + 2^i"
 fn plus_of(n: u8, stage: u8, switch: u16) -> u16 {
     reduced(n, i32::from(switch) + 2i32.pow(u32::from(stage)))
 }
 
-/// "minus (code 2) to j - 2^i"
+/// "Minus has code 2 and lands on j - 2^i"
 fn minus_of(n: u8, stage: u8, switch: u16) -> u16 {
     reduced(n, i32::from(switch) - 2i32.pow(u32::from(stage)))
 }
 
-/// "At stage i switch j has three links: straight (code 0) to j, plus (code 1) to j + 2^i, minus (code 2) to
-/// j - 2^i."
+/// "Three links leave switch j at stage i. Straight has code 0 and lands on j. Plus has code 1 and lands on j +
+/// 2^i. Minus has code 2 and lands on j - 2^i."
 pub fn far_end(n: u8, stage: u8, switch: u16, code: u8) -> u16 {
     match code {
         PLUS => plus_of(n, stage, switch),
@@ -114,7 +115,7 @@ pub fn far_end(n: u8, stage: u8, switch: u16, code: u8) -> u16 {
     }
 }
 
-/// "agrees with d in its low i+1 bits" (here: in its low `bits` bits)
+/// "a label with d's low i+1 bits" (here: in its low `bits` bits)
 fn agrees(label: u16, destination: u16, bits: u8) -> bool {
     let size = 2u32.pow(u32::from(bits));
     u32::from(label) % size == u32::from(destination) % size
@@ -124,22 +125,22 @@ fn agrees(label: u16, destination: u16, bits: u8) -> bool {
 // Tags and steps.
 // ---------------------------------------------------------------------------------------------------------
 
-/// "Bit positions count from the low end."
+/// "Bits are counted from the lowest, which is bit 0."
 fn bit(number: u32, position: u8) -> u32 {
     (number >> position) & 1
 }
 
-/// "A tag is a number below 2^(2n)."
+/// "A tag has 2n bits: it is less than 2^(2n)."
 fn is_tag(n: u8, tag: u32) -> bool {
     tag < 2u32.pow(2 * u32::from(n))
 }
 
-/// "Its bits 0 to n-1 are the destination"
+/// "The low n bits hold the destination"
 fn destination_of(n: u8, tag: u32) -> u16 {
     (tag % labels(n)) as u16
 }
 
-/// "At stage i, switch j and destination bit t:" and the table of links that follows.
+/// "for switch j at stage i and t, which is bit i of the destination:" and the table of links that follows.
 fn link_taken(stage: u8, switch: u16, t: u32, state: u32) -> u8 {
     match (bit(u32::from(switch), stage), t, state) {
         (0, 0, _) => STRAIGHT,
@@ -151,7 +152,7 @@ fn link_taken(stage: u8, switch: u16, t: u32, state: u32) -> u8 {
     }
 }
 
-/// "Its bits 0 to n-1 are the destination; bit n+i is the state of stage i." So the n codes, stage 0 first.
+/// "The low n bits hold the destination, and bit n+i holds the state of stage i." So the n codes, stage 0 first.
 fn steps_of(n: u8, source: u16, tag: u32) -> Vec<u8> {
     let mut steps = Vec::new();
     let mut switch = source;
@@ -163,7 +164,7 @@ fn steps_of(n: u8, source: u16, tag: u32) -> Vec<u8> {
     steps
 }
 
-/// "Steps are n codes, stage 0 first." So the label at which they arrive.
+/// "Steps are a row of n codes, that of stage 0 in front." So the label at which they arrive.
 fn arrival(n: u8, source: u16, steps: &[u8]) -> u16 {
     let mut switch = source;
     for (stage, &code) in (0..n).zip(steps) {
@@ -172,7 +173,7 @@ fn arrival(n: u8, source: u16, steps: &[u8]) -> u16 {
     switch
 }
 
-/// "From a source, steps give one normal tag: destination reached, and state 0 wherever the step is straight."
+/// "Steps taken from a source have exactly one normal tag: it has the destination that they lead to, and state 0 at each straight step."
 fn normal_tag(n: u8, source: u16, steps: &[u8]) -> u32 {
     let mut tag = u32::from(arrival(n, source, steps));
     let mut switch = source;
@@ -188,7 +189,7 @@ fn normal_tag(n: u8, source: u16, steps: &[u8]) -> u32 {
     tag
 }
 
-/// "tag to steps (n, source, tag, memory): 1, 10, 12, 13. It writes n bytes at the front."
+/// "Tag to steps (n, source, tag, memory): 1, 10, 12, 13. The first n bytes of the memory are written."
 pub fn tag_to_steps(n: u8, source: u16, tag: u32, memory: &mut [u8]) -> u8 {
     if size_is_outside(n) {
         return 1;
@@ -208,7 +209,7 @@ pub fn tag_to_steps(n: u8, source: u16, tag: u32, memory: &mut [u8]) -> u8 {
     0
 }
 
-/// "steps to tag (n, source, memory): 1, 10, 13, 12. Bytes after the first n are not read."
+/// "Steps to tag (n, source, memory): 1, 10, 13, 12. It reads n bytes and none after them."
 pub fn steps_to_tag(n: u8, source: u16, memory: &[u8]) -> Result<u32, u8> {
     if size_is_outside(n) {
         return Err(1);
@@ -226,8 +227,8 @@ pub fn steps_to_tag(n: u8, source: u16, memory: &[u8]) -> Result<u32, u8> {
     Ok(normal_tag(n, source, steps))
 }
 
-/// "normal form of a tag (n, source, tag): 1, 10, 12." "Reading tag to steps to tag clears exactly the state
-/// bits of straight steps".
+/// "Normal form (n, source, tag): 1, 10, 12." "A tag that is turned into steps and back loses the state bits of its
+/// straight steps and nothing else".
 pub fn normal_form(n: u8, source: u16, tag: u32) -> Result<u32, u8> {
     if size_is_outside(n) {
         return Err(1);
@@ -241,8 +242,8 @@ pub fn normal_form(n: u8, source: u16, tag: u32) -> Result<u32, u8> {
     Ok(normal_tag(n, source, &steps_of(n, source, tag)))
 }
 
-/// "where two paths first part, the one whose state bit there is 0 comes first": all paths from source to
-/// destination, each as its steps, in that order (stage 0's state weighs most).
+/// "two paths are compared at the first stage where they differ, and the one with state 0 there goes before the
+/// other": all paths from source to destination, each as its steps, in that order (stage 0's state weighs most).
 ///
 /// A link of stage i moves by 0 or 2^i, so it leaves the low i bits of the label alone. A path to d therefore
 /// agrees with d in bit i from column i+1 on, and at each stage it takes a link that the table gives for d's
@@ -275,7 +276,7 @@ pub fn paths(n: u8, source: u16, destination: u16) -> Vec<Vec<u8>> {
 // Notices and the book.
 // ---------------------------------------------------------------------------------------------------------
 
-/// "a set (straight 1, plus 2, minus 4, added; 1 to 7)"
+/// "The set is a sum, of 1 for straight, 2 for plus and 4 for minus, and lies between 1 and 7"
 fn set_has(set: u8, code: u8) -> bool {
     let weight = match code {
         STRAIGHT => 1,
@@ -285,8 +286,8 @@ fn set_has(set: u8, code: u8) -> bool {
     set & weight != 0
 }
 
-/// The stage whose links the target names: "Links: stage 0 to n-1", "for column i above 0, at stage i-1", "Pattern: stage"; 02, §3: in column 0
-/// "at stage 0".
+/// The stage whose links the target names: "Links, kind 1: a stage below n", "In column i, other than 0, it names three links of stage i-1",
+/// "Pattern, kind 3: a stage below n"; docs/RULES.md, 'Notices': in column 0 "of stage 0".
 fn stage_of(target: Target) -> u8 {
     match target {
         Target::Links { stage, .. } | Target::Pattern { stage, .. } => stage,
@@ -295,10 +296,10 @@ fn stage_of(target: Target) -> u8 {
     }
 }
 
-/// "1. Links: stage 0 to n-1, switch, and a set". "2. Switch: column 0 to n and switch. It stops the switch's
-/// input links: for column i above 0, at stage i-1, the straight link of j, plus of j - 2^(i-1), minus of
-/// j + 2^(i-1)." 02, §3: "a switch notice in column 0 stops the three output links of that switch at stage 0". "3. Pattern: stage, value, mask, set.
-/// It names every switch whose bits under the mask equal the value."
+/// "Links, kind 1: a stage below n, a switch and a set". "Switch, kind 2: a column from 0 to n, and a switch j. In column i, other than 0, it names
+/// three links of stage i-1, those that end at j: straight out of j, plus out of j - 2^(i-1), minus out of j + 2^(i-1)." docs/RULES.md, 'Notices':
+/// "In column 0, where no link ends, it names the three links of stage 0 that leave the switch". "Pattern, kind 3: a stage below n, a value, a mask
+/// and a set. It names the links of the set at every switch that has the value's bits where the mask has ones."
 ///
 /// Whether the target names the link with this code of switch j at the stage `at`.
 pub fn names(n: u8, target: Target, at: u8, j: u16, code: u8) -> bool {
@@ -317,7 +318,7 @@ pub fn names(n: u8, target: Target, at: u8, j: u16, code: u8) -> bool {
     }
 }
 
-/// "stage, column or switch outside the fabric (a pattern's value is judged by 5 alone)"
+/// "a stage, column or switch that the fabric does not have (the value of a pattern is left to 5)"
 fn is_outside_the_fabric(n: u8, target: Target) -> bool {
     match target {
         Target::Links { stage, switch, .. } => stage >= n || !is_label(n, switch),
@@ -326,7 +327,7 @@ fn is_outside_the_fabric(n: u8, target: Target) -> bool {
     }
 }
 
-/// "set outside 1 to 7, mask bit at n or above, value outside the mask"
+/// "a set of 0 or above 7, a one of the mask at bit n or higher, a value with a one outside of the mask"
 fn has_a_bad_set_mask_or_value(n: u8, target: Target) -> bool {
     match target {
         Target::Links { set, .. } => set < 1 || set > 7,
@@ -337,17 +338,17 @@ fn has_a_bad_set_mask_or_value(n: u8, target: Target) -> bool {
     }
 }
 
-/// 02, §5: "a class above 1"
+/// docs/RULES.md, 'Classes': "a class of 2 or more"
 fn is_no_class(class: u8) -> bool {
     class > 1
 }
 
-/// 02, §5: "a route may ask for all classes or broken only": whether a notice of this class counts for such a route.
+/// docs/RULES.md, 'Classes': "all notices count, or the broken ones alone": whether a notice of this class counts for such a route.
 fn counts(choice: u8, class: u8) -> bool {
     choice == ALL || choice == BROKEN_ONLY && class == BROKEN
 }
 
-/// "A mask with fewer than two ones is too wide, so at n = 1 no pattern is accepted."
+/// "A mask of no ones or of one is too wide. With n = 1 there is no other, so every pattern is refused."
 fn is_too_wide(target: Target) -> bool {
     match target {
         Target::Pattern { mask, .. } => mask.count_ones() < 2,
@@ -355,8 +356,8 @@ fn is_too_wide(target: Target) -> bool {
     }
 }
 
-/// "open (n): 1, handing back a book of size 0 with no notices, which every entry over a book answers with 16;
-/// otherwise an empty book of size n."
+/// "Open (n): 1. It then hands back a book of size 0 without notices, to which every entry over a book says 16.
+/// Otherwise it hands back an empty book of size n."
 pub fn open(n: u8) -> (Book, u8) {
     if size_is_outside(n) {
         (Book { n: 0, notices: Vec::new() }, 1)
@@ -366,45 +367,46 @@ pub fn open(n: u8) -> (Book, u8) {
 }
 
 impl Book {
-    /// "a book of size 0 with no notices" after a refused opening, "otherwise an empty book of size n".
+    /// "a book of size 0 without notices" after a refused opening, "Otherwise it hands back an empty book of size n".
     pub fn size(&self) -> u8 {
         self.n
     }
 
-    /// "Standing notices by rising number"
+    /// "the notices that stand, the lowest number first"
     pub fn standing(&self) -> Vec<Notice> {
         self.notices.clone()
     }
 
-    /// "a book that an accepted opening, filing and withdrawing cannot produce": the fields are private and only
-    /// `open`, `file` and `withdraw` write them, so the book of a refused opening is the only such book.
+    /// "a book to which no accepted opening, filings and withdrawals lead": the fields are private and only `open`,
+    /// `file` and `withdraw` write them, so the book of a refused opening is the only such book.
     fn cannot_be_produced(&self) -> bool {
         size_is_outside(self.n)
     }
 
-    /// "number already stands" and, where not so, "number does not stand"
+    /// "the number stands already" and, where not so, "no notice of this number stands"
     fn stands(&self, number: u16) -> bool {
         self.notices.iter().any(|notice| notice.number == number)
     }
 
-    /// 02, §5: the notices of which "stopped by a counted notice" speaks.
+    /// docs/RULES.md, 'Classes': the notices of which "stopped by a notice that counts" speaks.
     fn counted(&self, choice: u8) -> impl Iterator<Item = &Notice> {
         self.notices.iter().filter(move |notice| counts(choice, notice.class))
     }
 
-    /// "Several may name one link." 02, §5: it is "stopped by a counted notice" while any that stands and counts names it.
+    /// "A link may be named by more than one notice." docs/RULES.md, 'Classes': it is "stopped by a notice that counts" while any that stands and counts names
+    /// it.
     fn stopped(&self, choice: u8, stage: u8, switch: u16, code: u8) -> bool {
         self.counted(choice).any(|notice| names(self.n, notice.target, stage, switch, code))
     }
 
-    /// 02, §2: "the lowest number among the notices that stop the link, or clear"
+    /// docs/RULES.md, 'The book': "clear, or the lowest number of a notice that stops the link"
     fn lowest_that_stops(&self, choice: u8, stage: u8, switch: u16, code: u8) -> Option<u16> {
         let stopping = self.counted(choice).filter(|notice| names(self.n, notice.target, stage, switch, code));
         stopping.map(|notice| notice.number).min()
     }
 
-    /// "the first stage whose link is stopped", if any, with 02, §2's "A walk passes that number on."; "A path is clear when none of its n
-    /// links is stopped."
+    /// "the first stage at which it meets a stopped link", if any, with "A walk hands on the number that the link test gives."; "A path of
+    /// n links is clear where no link of it is stopped."
     fn first_stopped(&self, choice: u8, source: u16, steps: &[u8]) -> Option<Stopped> {
         let mut switch = source;
         for (stage, &code) in (0..self.n).zip(steps) {
@@ -416,8 +418,8 @@ impl Book {
         None
     }
 
-    /// "the stage named is the least i such that no clear walk of i+1 links from s arrives at a label that agrees
-    /// with d in its low i+1 bits"
+    /// "a stage is named: the lowest i for which no walk of i+1 clear links out of s ends at a label with d's low i+1
+    /// bits"
     ///
     /// Column by column, the set of labels at which clear walks arrive, over all three links. Of column k only the
     /// labels that agree with d in the low k bits are kept. This changes nothing: the links of stages k and later
@@ -445,8 +447,8 @@ impl Book {
         None
     }
 
-    /// 02, §2: "a switch reached clear": the labels at which clear walks of so many links from the source arrive, wherever they lead, over all
-    /// three links of every switch.
+    /// docs/RULES.md, 'Routes': "a switch at which a clear walk has arrived": the labels at which clear walks of so many links from the source
+    /// arrive, wherever they lead, over all three links of every switch.
     fn reached_clear(&self, choice: u8, source: u16, links: u8) -> Vec<u16> {
         let mut reached = vec![source];
         for stage in 0..links {
@@ -464,8 +466,9 @@ impl Book {
         reached
     }
 
-    /// 02, §2: "any way onward toward the destination from a switch reached clear at the named stage", as its switch and its code. Toward
-    /// the destination leads a link of stage i whose far end "agrees with d in its low i+1 bits".
+    /// docs/RULES.md, 'Routes': "A way onward is a link of the stage named: it leaves a switch at which a clear walk has arrived, and it
+    /// leads toward the destination", as its switch and its code. Toward the destination leads a link of stage i whose far end is "a
+    /// label with d's low i+1 bits".
     pub fn ways_onward(&self, choice: u8, source: u16, destination: u16, stage: u8) -> Vec<(u16, u8)> {
         let mut ways = Vec::new();
         for switch in self.reached_clear(choice, source, stage) {
@@ -478,8 +481,8 @@ impl Book {
         ways
     }
 
-    /// 02, §2: "A route with no clear path also names the lowest number that stops any way onward toward the destination from a switch
-    /// reached clear at the named stage." 02, §5: "the number after `BY` now read 'stopped by a counted notice'"
+    /// docs/RULES.md, 'Routes': "The number named is the lowest of a notice that counts and stops a way onward." docs/RULES.md,
+    /// 'Classes': "the number after `BY`, which is that of a notice that counts"
     ///
     /// There is such a way, and each is stopped: otherwise another stage would have been named.
     fn notice_named(&self, choice: u8, source: u16, destination: u16, stage: u8) -> u16 {
@@ -489,8 +492,8 @@ impl Book {
         stopping.map(|notice| notice.number).min().expect("a notice stops a way onward")
     }
 
-    /// "file: 16, 3, 4, 5, 6, 7, 8." "a change that was refused hands the book back as given." 02, §5: a class above 1 "is 5, for a filing
-    /// where 5 stands now".
+    /// "File (book, notice): 16, 3, 4, 5, 6, 7, 8." "a refused change gives the book back unchanged." docs/RULES.md, 'Classes': a class
+    /// above 1 is 5, "of a filing where the set and the mask are judged".
     pub fn file(&mut self, notice: Notice) -> u8 {
         if self.cannot_be_produced() {
             return 16;
@@ -518,7 +521,7 @@ impl Book {
         0
     }
 
-    /// "withdraw: 16, 3, 9." "A withdrawn notice's number and place can be used again."
+    /// "Withdraw (book, number): 16, 3, 9." "After a withdrawal the number is free again, and so is the place."
     pub fn withdraw(&mut self, number: u16) -> u8 {
         if self.cannot_be_produced() {
             return 16;
@@ -533,8 +536,8 @@ impl Book {
         0
     }
 
-    /// "link stopped or not: 16, 4, 12." 02, §2: "The link test should answer with the lowest number among the notices that stop the link, or
-    /// clear." 02, §5: "The link test and the walk count all notices."
+    /// "Link test (book, stage, switch, code): 16, 4, 12." docs/RULES.md, 'The book': "The link test answers clear, or the lowest number of a
+    /// notice that stops the link." docs/RULES.md, 'Classes': "Link test and walk have no choice: for them every notice counts."
     pub fn link(&self, stage: u8, switch: u16, code: u8) -> Result<Option<u16>, u8> {
         if self.cannot_be_produced() {
             return Err(16);
@@ -548,9 +551,9 @@ impl Book {
         Ok(self.lowest_that_stops(ALL, stage, switch, code))
     }
 
-    /// "route: 16, 10, 11." "Among clear paths from s to d, the first is found so: where two paths first part, the
-    /// one whose state bit there is 0 comes first. The route answer is that path's normal tag." 02, §5: a choice above 1 "is 5", "for a route
-    /// between 10 and 11".
+    /// "Route (book, source, destination, choice): 16, 10, 5, 11." "Of the paths from s to d that are clear one is the first: two paths are
+    /// compared at the first stage where they differ, and the one with state 0 there goes before the other. So stage 0 weighs most. A route
+    /// answers the normal tag of the first clear path." docs/RULES.md, 'Classes': a choice above 1 is 5, "of a route after 10 and before 11".
     pub fn route(&self, source: u16, destination: u16, choice: u8) -> Result<u32, (u8, Option<Stopped>)> {
         if self.cannot_be_produced() {
             return Err((16, None));
@@ -570,7 +573,8 @@ impl Book {
         Err((11, self.stage_named(choice, source, destination).map(named)))
     }
 
-    /// "walk (book, source, tag): 16, 10, 12, 11, 17; otherwise clear." 02, §5: "The link test and the walk count all notices."
+    /// "Walk (book, source, tag): 16, 10, 12, 11, 17. Past these the walk is clear." docs/RULES.md, 'Classes': "Link test and walk have no choice: for them
+    /// every notice counts."
     pub fn walk(&self, source: u16, tag: u32) -> Result<(), (u8, Option<Stopped>)> {
         if self.cannot_be_produced() {
             return Err((16, None));
@@ -591,8 +595,9 @@ impl Book {
         Ok(())
     }
 
-    /// "listing: 16, 13. Standing notices by rising number, ten bytes each as filing actions, at the front; the rest
-    /// stays. It answers how many there are." 02, §5: "The listing writes eleven bytes each, class last."
+    /// "Listing (book, memory): 16, 13. It writes the notices that stand, the lowest number first, each as the eleven
+    /// bytes of its filing, the class at the end. They lie at the front of the memory, and what follows them is left.
+    /// The answer is their count."
     pub fn listing(&self, memory: &mut [u8]) -> Result<usize, u8> {
         if self.cannot_be_produced() {
             return Err(16);
@@ -606,12 +611,12 @@ impl Book {
         Ok(self.notices.len())
     }
 
-    /// 02, §5: "§1 writes version 2 when any busy notice stands"
+    /// docs/RULES.md, 'Writing a book': "The sheet has version 2 where some notice that stands is busy"
     fn version_written(&self) -> u16 {
         if self.notices.iter().any(|notice| notice.class == BUSY) { 2 } else { 1 }
     }
 
-    /// 02, §1: "Write a version 1 sheet from a book: a header and one filing per standing notice, by rising number."
+    /// docs/RULES.md, 'Writing a book': "A book is written as a sheet: the header, then a filing of every notice that stands, the lowest number first."
     pub fn sheet(&self) -> Vec<u8> {
         let version = self.version_written();
         let mut sheet = b"FSH".to_vec();
@@ -624,7 +629,7 @@ impl Book {
         sheet
     }
 
-    /// 02, §1: "It answers the length; later bytes stay." "Refusals: 16, then 13."
+    /// docs/RULES.md, 'Writing a book': "The answer is the length of the sheet, and the bytes after it are left." "The numbers are 16, then 13."
     pub fn write(&self, memory: &mut [u8]) -> Result<usize, u8> {
         if self.cannot_be_produced() {
             return Err(16);
@@ -644,19 +649,19 @@ impl Book {
 // The sheet.
 // ---------------------------------------------------------------------------------------------------------
 
-/// "Numbers are big-endian."
+/// "In every number of two bytes the high byte comes first."
 fn two_bytes(high: u8, low: u8) -> u16 {
     u16::from_be_bytes([high, low])
 }
 
-/// 02, §5: "Where 01 says ten, such a sheet has eleven".
+/// docs/RULES.md, 'The sheet': "An action has ten bytes in version 1. In version 2 it has eleven".
 fn action_length(version: u16) -> usize {
     if version == 2 { CLASSED_LENGTH } else { ACTION_LENGTH }
 }
 
-/// "action 8 bits, number 16, kind 8, stage 8, switch 16, mask 16, set 8", and by 02, §5 "class last"; "Action 1 files; the kind is the target's
-/// number above (kind 1: mask zero; kind 2: stage holds the column, mask and set zero; kind 3: switch holds the
-/// value)."
+/// "the action in one byte, the number in two, the kind in one, the stage in one, the switch in two, the mask in two, the set in one", and by
+/// docs/RULES.md, 'Classes' "the class at the end"; "Action 1 is a filing, and its kind is that of the target. In kind 1 the mask is 0. In kind
+/// 2 the column stands in the stage's byte, mask and set are 0. In kind 3 the value stands where the switch does."
 fn filing_action(notice: Notice) -> [u8; CLASSED_LENGTH] {
     let (kind, stage, switch, mask, set) = match notice.target {
         Target::Links { stage, switch, set } => (1, stage, switch, 0, set),
@@ -669,8 +674,9 @@ fn filing_action(notice: Notice) -> [u8; CLASSED_LENGTH] {
     [1, number[0], number[1], kind, stage, switch[0], switch[1], mask[0], mask[1], set, notice.class]
 }
 
-/// "sheet header: 14, 1, 15; otherwise it answers n and the count." "Length is exactly 8 + 10 x count; count 0 is
-/// allowed." 02, §5: "The sheet goes to version 2"; "Version 1 sheets still read". The version is answered too, after the count.
+/// "Header (sheet): 14, 1, 15. Past these it answers n, the count and the version." "A sheet of version 1 is 8 + 10 x count
+/// bytes long, and one of version 2 is 8 + 11 x count. The count may be 0." docs/RULES.md, 'The sheet': "In version 2 it has
+/// eleven"; "Sheets of version 1 are still run". The version is answered too, after the count.
 pub fn header(sheet: &[u8]) -> Result<(u8, u16, u16), u8> {
     if sheet.len() < HEADER_LENGTH || sheet[..3] != *b"FSH" {
         return Err(14);
@@ -690,8 +696,8 @@ pub fn header(sheet: &[u8]) -> Result<(u8, u16, u16), u8> {
     Ok((n, count, version))
 }
 
-/// "For a sheet and k, counted from 0, one entry says whether the action is there: a bad header gives the header's
-/// number, k not below the count gives 13."
+/// "Is action k there (sheet, k), k from 0 on: the header's number where that is refused, then 13 where the count
+/// is k or less."
 pub fn has_action(sheet: &[u8], k: usize) -> Result<(), u8> {
     let (_, count, _) = header(sheet)?;
     if k >= usize::from(count) {
@@ -700,8 +706,9 @@ pub fn has_action(sheet: &[u8], k: usize) -> Result<(), u8> {
     Ok(())
 }
 
-/// "A second entry returns a part only: where the first accepts, action k is handed back as those ten bytes of the
-/// sheet themselves; otherwise the empty part at the sheet's front." 02, §5: "Where 01 says ten, such a sheet has eleven".
+/// "Part of action k (sheet, k): where the entry before accepts, a part of the caller's own sheet, the ten or eleven bytes
+/// of the action; where it refuses, the empty part at the front of the sheet." docs/RULES.md, 'The sheet': "An action has
+/// ten bytes in version 1. In version 2 it has eleven".
 pub fn action_part(sheet: &[u8], k: usize) -> &[u8] {
     match (header(sheet), has_action(sheet, k)) {
         (Ok((_, _, version)), Ok(())) => {
@@ -712,8 +719,8 @@ pub fn action_part(sheet: &[u8], k: usize) -> &[u8] {
     }
 }
 
-/// 02, §5: "the action reader takes both lengths": a part without its class, and the class. "Version 1 sheets still read, every notice broken and
-/// every route over all."
+/// docs/RULES.md, 'Entries': "A part of either length is read": a part without its class, and the class. "Sheets of version 1 are still run. Each
+/// notice of theirs is broken, and each route counts all."
 fn without_class(part: &[u8]) -> Result<(&[u8], u8), u8> {
     match part.len() {
         ACTION_LENGTH => Ok((part, 0)),
@@ -722,11 +729,12 @@ fn without_class(part: &[u8]) -> Result<(&[u8], u8), u8> {
     }
 }
 
-/// "action reader (a part): 13, 2; otherwise the action with its fields." 2 is "unknown action or kind, or a spare
-/// field not zero (bytes only)": "Action 1 files; the kind is the target's number above (kind 1: mask zero; kind 2:
-/// stage holds the column, mask and set zero; kind 3: switch holds the value). Action 2 withdraws; only the number is
-/// used, all else zero. Action 3 routes; switch is the source, mask the destination, all else zero." 02, §5: "a class above 1, or not zero on a
-/// withdrawal, is 2 in bytes".
+/// "Action reader (part): 13, 2. Past these it answers the action and its fields." 2 is "an action or a kind that is not known, a spare field
+/// that is not 0, or a class that may not stand there; in bytes alone": "Action 1 is a filing, and its kind is that of the target. In kind 1
+/// the mask is 0. In kind 2 the column stands in the stage's byte, mask and set are 0. In kind 3 the value stands where the switch does. Action
+/// 2 is a withdrawal: it has the number, and 0 in every other field. Action 3 is a route: the source in the switch, the destination in the
+/// mask, the choice in the class, and 0 in every other field." docs/RULES.md, 'Classes': "In bytes a class of 2 or more is a fault, number 2,
+/// and so is any class but 0 on a withdrawal".
 pub fn read_action(part: &[u8]) -> Result<Action, u8> {
     let (part, class) = without_class(part)?;
     if is_no_class(class) {
@@ -758,12 +766,12 @@ pub fn read_action(part: &[u8]) -> Result<Action, u8> {
 }
 
 // ---------------------------------------------------------------------------------------------------------
-// A book that a host holds: it is handed over as a sheet, and "Each hands the book back with its answer" as the
-// sheet of the book after the change. The header's number comes first, then the entry's own, then 13 where the
-// memory is shorter than that sheet; "The lent memory is then untouched".
+// A book that a host holds: it is handed over as a sheet, and "Both changes give the book back beside the answer"
+// as the sheet of the book after the change. The header's number comes first, then the entry's own, then 13 where
+// the memory is shorter than that sheet; "On a refusal no byte of lent memory is written".
 // ---------------------------------------------------------------------------------------------------------
 
-/// The book that a sheet's actions make, "starting from an empty book"; the header's number where it is refused.
+/// The book that a sheet's actions make, "runs it from an empty book"; the header's number where it is refused.
 pub fn book_of(sheet: &[u8]) -> Result<Book, u8> {
     let (n, count, _) = header(sheet)?;
     let (mut book, _) = open(n);
@@ -810,7 +818,7 @@ pub fn write_for_host(sheet: &[u8], memory: &mut [u8]) -> Result<usize, u8> {
 // What is printed.
 // ---------------------------------------------------------------------------------------------------------
 
-/// "`OK`, or `REFUSED` and the table number"
+/// "`OK`, or `REFUSED` and the number of the refusal"
 fn ok_or_refused(answer: u8) -> String {
     if answer == 0 {
         "OK".to_string()
@@ -819,8 +827,8 @@ fn ok_or_refused(answer: u8) -> String {
     }
 }
 
-/// "`TAG` with bits 0 to 2n-1 in that order, `NONE` with the stage, or `REFUSED` with the table number"; 02, §2: "Printed `NONE` lines end in
-/// `BY` and the number"
+/// "`TAG` and the 2n bits of the tag, bit 0 first; `NONE`, the stage, `BY` and the number of the notice named; or `REFUSED` and the number of
+/// the refusal"
 fn tag_none_or_refused(n: u8, answer: Result<u32, (u8, Option<Stopped>)>) -> String {
     match answer {
         Ok(tag) => {
@@ -832,9 +840,9 @@ fn tag_none_or_refused(n: u8, answer: Result<u32, (u8, Option<Stopped>)>) -> Str
     }
 }
 
-/// "Then a line per action, LF at each end." (here without its LF) "`FILE` or `WITHDRAW` is followed by the notice
-/// number", "`ROUTE` is followed by source, destination", "A layout fault prints `ACTION REFUSED 2`." "Check 2 comes
-/// before the entry's own."
+/// "For every action comes one line more, and a line feed ends each of them." (here without its LF) "After `FILE` or
+/// `WITHDRAW` come the number of the notice", "After `ROUTE` come source and destination", "An action with a fault
+/// of layout prints `ACTION REFUSED 2`." "2 is judged before anything that the entry itself checks."
 fn line_of_action(book: &mut Book, part: &[u8]) -> String {
     match read_action(part) {
         Err(number) => format!("ACTION REFUSED {number}"),
@@ -847,8 +855,9 @@ fn line_of_action(book: &mut Book, part: &[u8]) -> String {
     }
 }
 
-/// "The program reads a sheet on standard input, starting from an empty book. First line: `SHEET n count`, or only
-/// `SHEET REFUSED k`. Then a line per action, LF at each end."
+/// "The program takes a sheet from standard input and runs it from an empty book. The first line is `SHEET n
+/// count`, or, where the header is refused, `SHEET REFUSED k` and nothing after it. For every action comes one line
+/// more, and a line feed ends each of them."
 pub fn run(sheet: &[u8]) -> Vec<u8> {
     let (n, count, _) = match header(sheet) {
         Err(number) => return format!("SHEET REFUSED {number}\n").into_bytes(),

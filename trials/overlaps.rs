@@ -1,7 +1,7 @@
-//! Books of notices that overlap, for what document 02's §2 asks: many of them name links between one source and one destination, most of these at
-//! one stage, so that often no path is clear and several notices could be named. They are filed in no order of their numbers, and some are
-//! withdrawn. Then the notice that was named is withdrawn and the question asked again, until a path is clear. Some notices are busy, and some routes
-//! count the broken ones only (§5).
+//! Books of notices that overlap, for what docs/RULES.md, 'Routes', asks of the notice named: many of them name links between one source and one
+//! destination, most of these at one stage, so that often no path is clear and several notices could be named. They are filed in no order of their
+//! numbers, and some are withdrawn. Then the notice that was named is withdrawn and the question asked again, until a path is clear. Some notices are
+//! busy, and some routes count the broken ones only (docs/RULES.md, 'Classes').
 
 use crate::compared::Compared;
 use crate::draw::Draw;

@@ -1,5 +1,5 @@
-//! Trials of the proved controller against the model: every entry of document 01 and of document 02's §1 to §5, through the static library of
-//! the crate `face`, and the programs themselves, through standard input. A disagreement ends the run and prints the case in full.
+//! Trials of the proved controller against the model: every entry of docs/RULES.md, through the static library of the crate `face`, and the
+//! programs themselves, through standard input. A disagreement ends the run and prints the case in full.
 //!
 //!     trials [ROUNDS [SEED]]     ROUNDS random cases of each kind; 400 and a fixed seed where none are given
 
