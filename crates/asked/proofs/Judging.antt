@@ -11,9 +11,12 @@ use lib.ListN.{length, drop, get_or}
 use Rattle.table.specs.Checks.{◌not_below◌}
 use Rattle.table.proofs.Checks.{one_of}
 use Rattle.notices.specs.declared.Notice.{Notice}
+use Rattle.notices.specs.Notices.{names}
 use Rattle.standing.specs.Rising.{Filed, misfiled}
 use Rattle.standing.proofs.Reading.{next, none_left}
 use Rattle.standing.proofs.Filings.{filed_if}
+use Rattle.standing.proofs.Lowest.{lowest_nothing}
+use Rattle.book.specs.Standing.{stopper}
 use Rattle.asked.specs.Lower.{held, first_number, out_of_order}
 use Rattle.asked.proofs.Lower.{lower_first}
 
@@ -45,8 +48,12 @@ last_more {A} l k m x w e =
 pub last_none : {A : Type 0} (l : List A) → last 0 l ≡ []
 last_none l = none_left l (length l - 0) (omega arith)
 
+-- it has yielded all where none is left before them
+pub none_before : {A : Type 0} (l : List A) (k : ℕ) → k ≡ length (reverse l) → length l - k ≡ 0
+none_before l k e = let size = length-reverse l in omega arith
+
 pub last_all : {A : Type 0} (l : List A) (k : ℕ) → k ≡ length (reverse l) → last k l ≡ l
-last_all l k e = let size = length-reverse l in ap (λ (i : ℕ). drop i l) {x = length l - k} {y = 0} (omega arith)
+last_all l k e = ap (λ (i : ℕ). drop i l) (none_before l k e)
 
 -- over any test of what is bad
 module _ (bad : Notice → Bool) where
@@ -89,18 +96,24 @@ module _ (bad : Notice → Bool) where
         go true t = rw t (ap Some (lower_first test bad x.number x.number after (omega arith) f))
         go false t = rw t refl
 
+    -- where it is bad, the notices are misfiled
+    pub bad_misfiled : bad x ≡ true → misfiled bad 0 l ≡ true
+    unfolding misfiled
+    bad_misfiled e = misfiled_from i l (λ k. ap (misfiled bad k) from_it ∙ one_of (k not_below x.number || bad x) (misfiled bad x.number after) (or_holds (k not_below x.number) e)) 0
+
     -- where those after it are judged, it is filed before them, or the notices are misfiled
     module _ (number : Option ℕ) (judged : Judged number after) where
-      pub here_misfiled : (out_of_order x.number number || bad x) ≡ true → misfiled bad 0 l ≡ true
+      -- where it is not, the notices are misfiled
+      pub high_misfiled : out_of_order x.number number ≡ true → misfiled bad 0 l ≡ true
       unfolding misfiled
-      here_misfiled e = misfiled_from i l (λ k. ap (misfiled bad k) from_it ∙ go (k not_below x.number) (out_of_order x.number number) (bad x) (misfiled bad x.number after) (judged x.number) e) 0
+      high_misfiled h = misfiled_from i l (λ k. ap (misfiled bad k) from_it ∙ or_holds (k not_below x.number || bad x) (judged x.number ∙ h)) 0
+
+      pub here_misfiled : (out_of_order x.number number || bad x) ≡ true → misfiled bad 0 l ≡ true
+      here_misfiled e = go (out_of_order x.number number) refl e
         where
-          go : (a b c d : Bool) → d ≡ b → (b || c) ≡ true → (a || c || d) ≡ true
-          go true b true d e f = refl
-          go false b true d e f = refl
-          go true b false d e f = refl
-          go false true false d e f = e
-          go false false false d e f = absurd (true≢false (sym f))
+          go : (high : Bool) → out_of_order x.number number ≡ high → (high || bad x) ≡ true → misfiled bad 0 l ≡ true
+          go true h e = high_misfiled h
+          go false h e = bad_misfiled e
 
       pub judged_more : out_of_order x.number number ≡ false → bad x ≡ false → Judged (Some x.number) (drop i l)
       unfolding misfiled
@@ -108,3 +121,23 @@ module _ (bad : Notice → Bool) where
 
       pub filed_before : out_of_order x.number number ≡ false → Filed bad x.number after
       filed_before h = filed_if bad x.number after (judged x.number ∙ h)
+
+      -- and what is held with it is the number of the first that a test picks from there on
+      pub pass_more : out_of_order x.number number ≡ false → bad x ≡ false → (test : Notice → Bool) (named : Bool) (found : Option ℕ) → named ≡ test x → found ≡ first_number test after
+          → Judged (Some x.number) (drop i l) × (held named found x.number ≡ first_number test (drop i l))
+      pass_more h fit test named found t e = (judged_more h fit, held_more (filed_before h) test named found t e)
+
+  -- what is judged down to the first notice
+  pub judged_all : (number : Option ℕ) (i : ℕ) (l : List Notice) → i ≡ 0 → Judged number (drop i l) → misfiled bad 0 l ≡ out_of_order 0 number
+  judged_all number i l e judged = ap (λ (m : ℕ). misfiled bad 0 (drop m l)) (sym e) ∙ judged 0
+
+-- None is found before the pass begins, and all are found once it has come to the first notice: as a number or none, and as a number that is 0 for none.
+pub none_yet : (n past : ℕ) (l : List Notice) → past ≡ length l → (i j c : ℕ)
+    → (None ≡ first_number (λ x. names n x i j c) (drop past l)) × (0 ≡ stopper n (drop past l) i j c)
+none_yet n past l h i j c =
+    let e = none_left l past h in
+    (sym (ap (first_number (λ x. names n x i j c)) e), sym (ap (λ (m : List Notice). stopper n m i j c) e ∙ lowest_nothing (λ x. names n x i j c)))
+
+pub all_found : (n : ℕ) (l : List Notice) (left : ℕ) → left ≡ 0 → (i j c : ℕ)
+    → (first_number (λ x. names n x i j c) (drop left l) ≡ first_number (λ x. names n x i j c) l) × (stopper n (drop left l) i j c ≡ stopper n l i j c)
+all_found n l left e i j c = (ap (λ (m : ℕ). first_number (λ x. names n x i j c) (drop m l)) e, ap (λ (m : ℕ). stopper n (drop m l) i j c) e)

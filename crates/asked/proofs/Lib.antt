@@ -1,4 +1,3 @@
 pub mod Lower
 pub mod Judging
-pub mod OnePass
 pub mod Testing

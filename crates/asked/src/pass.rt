@@ -61,7 +61,10 @@ pub fn in_one_pass(book: &Book, stage: u8, switch: u16, code: u8) -> Result<Opti
             lowest = Some(lower(lowest, x.number));
         }
     }
-    if out_of_order(0, next) || damage::littered(&book.notices[count..]) {
+    if out_of_order(0, next) {
+        return Err(Refusal::Book);
+    }
+    if damage::littered(&book.notices[count..]) {
         return Err(Refusal::Book);
     }
     Ok(lowest)

@@ -35,12 +35,9 @@ pub record IsColumn (n s d i : ℕ) (c : Column) : Type 0 where
   pub straight : c.straight ≡ straight_at n s d i
   pub fork : c.fork ≡ fork_at n s d i
 
--- column i of the thirteen, of which there is none from 13 on
-abbrev pub no_column : Column
-no_column = record { straight = 0; fork = 0 }
-
+-- column i of the thirteen; from 13 on there is none, and both are 0
 abbrev pub column_at : Columns → ℕ → Column
-column_at w i = get_or w.columns i no_column
+column_at w i = record { straight = get_or w.straight i 0; fork = get_or w.fork i 0 }
 
 -- what the columns hold, from column 0 to the last
 pub record ColumnsOf (n s d : ℕ) (w : Columns) : Type 0 where

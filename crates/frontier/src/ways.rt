@@ -38,10 +38,12 @@ impl Column {
     }
 }
 
-// The two switches of each column, from column 0 to the last.
+// The two switches of each column, from column 0 to the last: those that go straight, and those that fork. Two arrays: they are filled as two vectors, and
+// one array of columns was measured slower (docs/SPEED.md).
 #[derive(Clone, Copy)]
 pub struct Columns {
-    pub columns: [Column; 13],
+    pub straight: [u16; 13],
+    pub fork: [u16; 13],
 }
 
 impl Columns {
@@ -51,14 +53,14 @@ impl Columns {
         requires { source < size fabric.n }
         ensures { ColumnsOf fabric.n source destination result }
     {
-        let mut columns = [Column {
-            straight: 0,
-            fork: 0,
-        }; 13];
+        let mut straight = [0; 13];
+        let mut fork = [0; 13];
         for i in 0..13u8 {
-            columns[i as usize] = Column::between(fabric, i, source, destination);
+            let column = Column::between(fabric, i, source, destination);
+            straight[i as usize] = column.straight;
+            fork[i as usize] = column.fork;
         }
-        Columns { columns }
+        Columns { straight, fork }
     }
 
     // The two switches of column i.
@@ -66,7 +68,10 @@ impl Columns {
         requires { i ≤ 12 }
         ensures { result ≡ column_at self.now i }
     {
-        self.columns[i as usize]
+        Column {
+            straight: self.straight[i as usize],
+            fork: self.fork[i as usize],
+        }
     }
 }
 

@@ -1,20 +1,23 @@
-use Rattle.std.proofs.Common.{◌≤◌, refl, ◌∙◌, arith, length-set}
-use Rattle.frontier.specs.Columns.{IsColumn, no_column}
+use Rattle.std.proofs.Common.{◌≡◌, ◌≤◌, refl, ◌∙◌, arith, length-set}
+use Rattle.frontier.specs.Columns.{straight_at, fork_at}
 use Rattle.frontier.proofs.Filled.{filled_more}
 use Rattle.frontier.proofs.ways.Columns.between.Goals as goal
 
 pub loop-i-init : goal.loop-i-init
-loop-i-init c = record { whole = refl; filled = λ k h. absurd (omega arith) }
+loop-i-init c = record { straights = refl; forks = refl; straight = λ k h. absurd (omega arith); fork = λ k h. absurd (omega arith) }
 
 pub loop-i-preserved : goal.loop-i-preserved
 loop-i-preserved c =
     let a = c.args in
     let v = c.loop-i in
-    let whole = v.invariant.whole in
+    let straights = v.invariant.straights in
+    let forks = v.invariant.forks in
     record {
-      whole = length-set v.columns v.i _ ∙ v.invariant.whole;
-      filled = filled_more (λ k x. k ≤ a.fabric.n → IsColumn a.fabric.n a.source a.destination k x) no_column v.columns v.i _ (omega arith) v.invariant.filled c.between.ensures;
+      straights = length-set v.straight v.i _ ∙ v.invariant.straights;
+      forks = length-set v.fork v.i _ ∙ v.invariant.forks;
+      straight = filled_more (λ k x. k ≤ a.fabric.n → x ≡ straight_at a.fabric.n a.source a.destination k) 0 v.straight v.i _ (omega arith) v.invariant.straight (λ h. (c.between-column.ensures h).straight);
+      fork = filled_more (λ k x. k ≤ a.fabric.n → x ≡ fork_at a.fabric.n a.source a.destination k) 0 v.fork v.i _ (omega arith) v.invariant.fork (λ h. (c.between-column.ensures h).fork);
     }
 
 pub returns : goal.returns
-returns c = record { at = λ i h. c.loop-i.invariant.filled i (omega arith) h }
+returns c = record { at = λ i h. record { straight = c.loop-i.invariant.straight i (omega arith) h; fork = c.loop-i.invariant.fork i (omega arith) h } }
