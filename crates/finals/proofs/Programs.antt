@@ -52,15 +52,22 @@ module _ {b : Book} {before after : List ℕ} {r : Written} (sound : Sound b) (e
       let f : Err why ≡ Ok (length (sheet_of b)) = sym e ∙ all_told in
       zero_one cc
 
+module _ {sheet before : List ℕ} {b : Book} {a : Answer} (hands : HandsOver sheet b a) where
+  -- the book that a sheet makes, written
+  pub final_made : {after : List ℕ} {answer : Final} → a ≡ Ok tt
+      → (answer ≡ Ok (length (sheet_of b))) × (after ≡ sheet_of b ++ drop (length (sheet_of b)) before) → WritesFinal sheet before answer after
+  final_made {after} {answer} e x = go (rw e at hands)
+    where
+      go : HandsOver sheet b (Ok tt) → WritesFinal sheet before answer after
+      go (makes {n = n} {count = count} {version = version} reads made sound) = record { header = headed n count version; reads = reads; final = (b, made, x.0, x.1) }
+
 module _ {sheet before after : List ℕ} {b : Book} {r : Written} (hands : HandsOver sheet b (Ok tt)) (enough : most_written ≤ length before) (w : Writes b before after r) where
-  -- the book that a sheet makes is sound, so its sheet is written,
-  pub final_made : {bytes : ℕ} → r ≡ Ok bytes → WritesFinal sheet before (Ok bytes) after
-  final_made {bytes} e = go hands
+  -- it is sound, so its sheet is written,
+  pub final_written : {bytes : ℕ} → r ≡ Ok bytes → WritesFinal sheet before (Ok bytes) after
+  final_written {bytes} e = go hands
     where
       go : HandsOver sheet b (Ok tt) → WritesFinal sheet before (Ok bytes) after
-      go (makes {n = n} {count = count} {version = version} reads made sound) =
-          let x = all_written sound enough w e in
-          record { header = headed n count version; reads = reads; final = (b, made, x.0, x.1) }
+      go (makes reads made sound) = final_made hands refl (all_written sound enough w e)
 
   -- and never refused
   pub final_has_room : {why : Refusal} → r ≡ Err why → ⊥
