@@ -101,13 +101,13 @@ module _ (bad : Notice → Bool) where
     unfolding misfiled
     bad_misfiled e = misfiled_from i l (λ k. ap (misfiled bad k) from_it ∙ one_of (k not_below x.number || bad x) (misfiled bad x.number after) (or_holds (k not_below x.number) e)) 0
 
-    -- where those after it are judged, it is filed before them, or the notices are misfiled
+    -- where those after it are judged, it is filed before them, or the notices are misfiled: where it is out of order before them,
     module _ (number : Option ℕ) (judged : Judged number after) where
-      -- where it is not, the notices are misfiled
       pub high_misfiled : out_of_order x.number number ≡ true → misfiled bad 0 l ≡ true
       unfolding misfiled
       high_misfiled h = misfiled_from i l (λ k. ap (misfiled bad k) from_it ∙ or_holds (k not_below x.number || bad x) (judged x.number ∙ h)) 0
 
+      -- or bad itself
       pub here_misfiled : (out_of_order x.number number || bad x) ≡ true → misfiled bad 0 l ≡ true
       here_misfiled e = go (out_of_order x.number number) refl e
         where

@@ -1,4 +1,2 @@
 -- memory with too little room
 pub mod Room
--- a change that was refused
-pub mod Refusing
